@@ -1,0 +1,3 @@
+mod Counting
+mod Laws
+mod Seeks

@@ -1,0 +1,4 @@
+pub mod Frames
+pub mod Networks
+pub mod Wires
+pub mod Surveys

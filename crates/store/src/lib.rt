@@ -1,0 +1,9 @@
+// A store of frames: records of whole blocks on a disk.
+mod blocks;
+mod records;
+mod store;
+mod storing;
+
+pub use records::LONGEST_FRAME;
+pub use store::Store;
+pub use store::StoreError;

@@ -1,0 +1,19 @@
+// A store of frames on a disk.
+use block::Disk;
+
+// Records one after the other from block 0; `next` is the first block that is free.
+#[derive(Drop)]
+pub struct Store {
+    pub(crate) disk: Disk,
+    pub(crate) next: u32,
+}
+
+#[derive(Clone, Copy, PartialEq, Eq, Debug)]
+pub enum StoreError {
+    // longer than any frame
+    TooLong,
+    // too few blocks are free
+    Full,
+    // what was read back is not what was written
+    Damaged,
+}
