@@ -5,5 +5,7 @@ mod store;
 mod storing;
 
 pub use records::LONGEST_FRAME;
+pub use records::Record;
+pub use records::record_of;
 pub use store::Store;
 pub use store::StoreError;

@@ -4,6 +4,7 @@ ghost use mathlib.Core.List.{_++_};
 ghost use Prim.Native.Nat.{_+_, _≤_};
 ghost use lib.ListN.{length, drop};
 ghost use Rattle.store.specs.Records.{be2, padded, blocks-for};
+ghost use Rattle.store.specs.Blocks.{record-blocks};
 
 pub const LONGEST_FRAME: usize = 1514;
 
@@ -36,4 +37,23 @@ pub(crate) fn pad(frame: &[u8]) -> [u8; 1536]
     let mut record = [0u8; 1536];
     lay(&mut record, frame);
     record
+}
+
+// The record of a frame: its blocks, with zeros behind them, and how many they are.
+#[derive(Clone, Copy)]
+pub struct Record {
+    pub count: u32,
+    pub bytes: [u8; 1536],
+}
+
+// The record of a frame; none for what is longer than any frame.
+pub fn record_of(frame: &[u8]) -> Option<Record>
+    ensures { λ r. ⌜ r ≡ record-blocks (now (frame .entry)) ⌝ }
+{
+    if frame.len() > LONGEST_FRAME {
+        return None;
+    }
+    let count = blocks_for(frame.len());
+    let bytes = pad(frame);
+    Some(Record { count, bytes })
 }

@@ -1,0 +1,3 @@
+// Examples of the fault layer, each proved safe and then run.
+#[cfg(test)]
+mod failures;

@@ -1,0 +1,3 @@
+-- What the examples are made of.
+pub mod Sample
+pub mod Digit

@@ -1,0 +1,2 @@
+-- What the contracts of the marks cite.
+pub mod First

@@ -1,0 +1,4 @@
+-- Lemmas that the proofs of several functions share.
+pub mod Laid
+pub mod Steps
+pub mod Whole
