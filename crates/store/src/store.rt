@@ -1,4 +1,5 @@
 // A store of frames on a disk.
+ghost use mathlib.Core.Path.{_≡_};
 use block::Disk;
 
 // Records one after the other from block 0; `next` is the first block that is free.
@@ -6,6 +7,15 @@ use block::Disk;
 pub struct Store {
     pub(crate) disk: Disk,
     pub(crate) next: u32,
+}
+
+impl Store {
+    // How many blocks the records take.
+    pub fn used(&self) -> u32
+        ensures { λ r. ⌜ r ≡ now (self .entry) .next ⌝ }
+    {
+        self.next
+    }
 }
 
 #[derive(Clone, Copy, PartialEq, Eq, Debug)]

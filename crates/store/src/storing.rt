@@ -28,13 +28,6 @@ impl Store {
         Store { disk, next: 0 }
     }
 
-    // How many blocks the records take.
-    pub fn used(&self) -> u32
-        ensures { λ r. ⌜ r ≡ now (self .entry) .next ⌝ }
-    {
-        self.next
-    }
-
     // Adds the record of a frame, and says in which block it begins.
     pub fn append(&mut self, frame: &[u8]) -> Result<u32, StoreError>
         ensures verdict { λ r. ⌜ r ≡ verdict (now (self .entry)) (length (now (frame .entry))) ⌝ }
