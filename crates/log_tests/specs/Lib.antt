@@ -1,3 +1,2 @@
 -- What the examples are made of.
-pub mod Sample
 pub mod Digit

@@ -1,12 +1,9 @@
-// The log on examples, with the entries of a class made for them.
+// The log on examples, with the settings of the block class.
 mod client;
 mod digit;
-mod sample;
 #[cfg(test)]
 mod tests;
 
 pub use client::note_handed;
 pub use digit::LastDigit;
 pub use digit::LastDigitKind;
-pub use sample::Sample;
-pub use sample::SampleClass;

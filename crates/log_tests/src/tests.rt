@@ -1,8 +1,8 @@
 // What a log does, on examples.
 use crate::digit::LastDigit;
 use crate::digit::LastDigitKind;
-use crate::sample::Sample;
-use crate::sample::SampleClass;
+use block::Block;
+use block::BlockClass;
 use compaction::Entry;
 use log::Full;
 use log::Item;
@@ -45,7 +45,7 @@ fn history_compacts() -> Result<(), Fail> {
             content: 0,
         },
     ];
-    let log: Log<Setting<Sample>> = Log::from_entries(&history)?;
+    let log: Log<Setting<Block>> = Log::from_entries(&history)?;
     check_eq(log.len(), 1)?;
     check_eq(log.entry(0), item(1, 20, false))?;
     check_eq(log.entry(1), None)?;
@@ -55,7 +55,7 @@ fn history_compacts() -> Result<(), Fail> {
 
 #[test]
 fn notes_compact() -> Result<(), Fail> {
-    let mut log: Log<Setting<Sample>> = Log::new();
+    let mut log: Log<Setting<Block>> = Log::new();
     log.note(1, 16)?;
     log.note(2, 5)?;
     log.note(1, 20)?;
@@ -70,7 +70,7 @@ fn notes_compact() -> Result<(), Fail> {
 
 #[test]
 fn noted_name_moves_to_the_end() -> Result<(), Fail> {
-    let mut log: Log<Membership<Sample>> = Log::new();
+    let mut log: Log<Membership<Block>> = Log::new();
     log.note(3, 1)?;
     log.note(4, 1)?;
     log.note(3, 1)?;
@@ -97,7 +97,7 @@ fn same_names_are_one_name() -> Result<(), Fail> {
 
 #[test]
 fn marks_stay_with_their_entries() -> Result<(), Fail> {
-    let mut log: Log<Membership<Sample>> = Log::new();
+    let mut log: Log<Membership<Block>> = Log::new();
     log.note(3, 1)?;
     log.note(4, 1)?;
     log.note(5, 1)?;
@@ -116,7 +116,7 @@ fn marks_stay_with_their_entries() -> Result<(), Fail> {
 
 #[test]
 fn full_log_refuses_and_stays() -> Result<(), Fail> {
-    let mut log: Log<Membership<Sample>> = Log::new();
+    let mut log: Log<Membership<Block>> = Log::new();
     for name in 0..24 {
         log.note(name, 1)?;
     }

@@ -21,7 +21,7 @@ pub struct PlainQueue {
 }
 
 impl PlainQueue {
-    pub fn new(heap: Global) -> PlainQueue {
+    pub(crate) fn new(heap: Global) -> PlainQueue {
         PlainQueue {
             heap,
             list: Vec::new(heap),
@@ -29,7 +29,7 @@ impl PlainQueue {
     }
 
     // What is to come of one more request.
-    pub fn verdict(&self, size: usize) -> Result<(), Refusal> {
+    pub(crate) fn verdict(&self, size: usize) -> Result<(), Refusal> {
         let mut sum = size;
         for plain in self.list.iter() {
             sum = sum.saturating_add(plain.payload.len());
@@ -43,32 +43,32 @@ impl PlainQueue {
         }
     }
 
-    pub fn push(&mut self, head: Head, payload: &[u8]) -> Result<(), AllocError> {
+    pub(crate) fn push(&mut self, head: Head, payload: &[u8]) -> Result<(), AllocError> {
         let payload = payload.to_vec(self.heap)?;
         self.list.push(Plain { head, payload })?;
         Ok(())
     }
 
-    pub fn pop(&mut self) {
+    pub(crate) fn pop(&mut self) {
         if !self.list.is_empty() {
             let _ = self.list.remove(0);
         }
     }
 
-    pub fn hand(&mut self, i: usize) {
+    pub(crate) fn hand(&mut self, i: usize) {
         if i < self.list.len() {
             self.list[i].head.handed = true;
         }
     }
 
-    pub fn unhand_all(&mut self) {
+    pub(crate) fn unhand_all(&mut self) {
         for plain in self.list.iter_mut() {
             plain.head.handed = false;
         }
     }
 
     // Whether a queue keeps the same, as far as its calls tell.
-    pub fn matches(&self, q: &Queue) -> Result<(), Fail> {
+    pub(crate) fn matches(&self, q: &Queue) -> Result<(), Fail> {
         let mut used = 0usize;
         let mut unhanded = 0usize;
         let mut first = None;
