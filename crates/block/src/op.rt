@@ -1,5 +1,5 @@
 // The kinds of a block request.
-#[derive(Clone, Copy, PartialEq, Eq, Debug)]
+#[derive(Clone, Copy)]
 pub enum BlockOp {
     Read,
     Write,

@@ -1,11 +1,8 @@
 // What a fault layer holds.
 use model::Fault;
-use model::refusal::FaultDebug;
-use model::refusal::FaultEq;
-use model::refusal::FaultPartialEq;
 
 // Which call is to fail, and how: way 0 leaves it unmade below, any other way makes it and drops its answer.
-#[derive(Clone, Copy, PartialEq, Eq, Debug)]
+#[derive(Clone, Copy)]
 pub struct Plan {
     // how many calls have got a number
     pub(crate) made: u32,
@@ -15,7 +12,7 @@ pub struct Plan {
 }
 
 // What is to become of a call.
-#[derive(Clone, Copy, PartialEq, Eq, Debug)]
+#[derive(Clone, Copy)]
 pub enum Turn {
     Passed,
     Unmade(Fault),
@@ -23,7 +20,7 @@ pub enum Turn {
 }
 
 // Whether the layer is up, and the pair that it answers while it is down.
-#[derive(Clone, Copy, PartialEq, Eq, Debug)]
+#[derive(Clone, Copy)]
 pub struct Door {
     pub(crate) up: bool,
     pub(crate) fault: Fault,

@@ -5,7 +5,6 @@ mod audit;
 mod burst;
 mod pile;
 mod records;
-mod reply;
 
 use audit::audit;
 use burst::Failure;

@@ -1,5 +1,5 @@
 // The kinds of a network request.
-#[derive(Clone, Copy, PartialEq, Eq, Debug)]
+#[derive(Clone, Copy)]
 pub enum NetworkOp {
     Send,
     Receive,

@@ -1,5 +1,5 @@
 // The kinds of a sound request.
-#[derive(Clone, Copy, PartialEq, Eq, Debug)]
+#[derive(Clone, Copy)]
 pub enum SoundOp {
     Play,
     Counters,

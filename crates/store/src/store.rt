@@ -18,7 +18,7 @@ impl Store {
     }
 }
 
-#[derive(Clone, Copy, PartialEq, Eq, Debug)]
+#[derive(Clone, Copy)]
 pub enum StoreError {
     // longer than any frame
     TooLong,
