@@ -1,4 +1,6 @@
 // A store of frames: records of whole blocks on the disk of any block driver.
+#![tactic(auto)]
+
 mod blocks;
 mod rooms;
 pub mod store;

@@ -43,8 +43,8 @@ fn oldest_payload(queue: &Queue) -> &[u8]
 impl<V: Device> BaseDriver<V> {
     // A driver over a device, down.
     pub fn new(device: V) -> BaseDriver<V>
-        ensures fine { Ok C-as-Class.rules (view V.Device.reach V.Device.contents result) }
-        ensures state { meaning C-as-Class.rules (view V.Device.reach V.Device.contents result) ≡ bare C-as-Class.rules false (V.Device.reach device) (V.Device.contents device) }
+        ensures fine { Ok V.C.Class.rules (view V.Device.reach V.Device.contents result) }
+        ensures state { meaning V.C.Class.rules (view V.Device.reach V.Device.contents result) ≡ bare V.C.Class.rules false (V.Device.reach device) (V.Device.contents device) }
     {
         BaseDriver {
             up: false,

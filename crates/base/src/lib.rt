@@ -1,4 +1,6 @@
 // A driver over any device.
+#![tactic(auto)]
+
 mod driving;
 mod parts;
 

@@ -1,4 +1,6 @@
 // Block devices: the class, and a disk over memory.
+#![tactic(auto)]
+
 mod class;
 mod disk;
 pub mod op;

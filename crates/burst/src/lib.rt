@@ -1,4 +1,6 @@
 // A burst of frames through an intake, over drivers of any make, told line by line.
+#![tactic(auto)]
+
 mod counting;
 mod drivers;
 mod lines;

@@ -1,4 +1,6 @@
 // Entries, the compaction of a list of them, and the theorems about it.
+#![tactic(auto)]
+
 pub mod entry;
 mod theory;
 

@@ -1,4 +1,6 @@
 // A device of any class, and what its devices share.
+#![tactic(auto)]
+
 ghost use Rattle.std.specs.Prelude.{◌≡◌, ℕ, true, length};
 ghost use Rattle.model.specs.Requests.{Contents, counts};
 ghost use Rattle.device.specs.Performing.{allowed, outcome, Performed, put, put_count};

@@ -1,4 +1,6 @@
 // Examples of the three classes and their devices, each proved safe and then run.
+#![tactic(auto)]
+
 #[cfg(test)]
 mod blocks;
 #[cfg(test)]

@@ -1,4 +1,6 @@
 // Drivers: the trait that every driver has, and the rules that it keeps.
+#![tactic(auto)]
+
 pub mod answers;
 mod driver;
 

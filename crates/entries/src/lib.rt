@@ -1,4 +1,6 @@
 // Entries with marks, and the loops over a slice of them.
+#![tactic(auto)]
+
 pub mod item;
 mod marking;
 mod slices;

@@ -1,4 +1,6 @@
 // A log of entries that is kept compact: of each name the last entry, and none that holds the default.
+#![tactic(auto)]
+
 pub mod full;
 mod log;
 mod marking;
@@ -8,4 +10,4 @@ mod reading;
 pub use entries::Item;
 pub use full::Full;
 pub use kinds::{EntryKind, Membership, Setting};
-pub use entry_log::Log;
+pub use log::Log;

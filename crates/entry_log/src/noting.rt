@@ -59,9 +59,9 @@ impl<K> Log<K> {
 impl<K: EntryKind> Log<K> {
     // The compaction of any entries, none of them handed on; refused where it has more than 24.
     pub fn from_entries(entries: &[Entry]) -> Result<Log<K>, Full>
-        ensures test { is_ok result ≡ nat_le (length (compact kind entries.now)) 24 }
-        ensures holds { IfOk result (λ l. items_in l ≡ map fresh (compact kind entries.now)) }
-        ensures records { IfOk result (λ l. Records kind entries.now l) }
+        ensures test { is_ok result ≡ nat_le (length (compact K.kind entries.now)) 24 }
+        ensures holds { IfOk result (λ l. items_in l ≡ map fresh (compact K.kind entries.now)) }
+        ensures records { IfOk result (λ l. Records K.kind entries.now l) }
     {
         let mut log = Log::new();
         for (i, entry) in entries.iter().enumerate() {
@@ -75,10 +75,10 @@ impl<K: EntryKind> Log<K> {
     // Gives a name a content. Its entry stands last, not handed on; where that is the default, it has none.
     // Refused, with nothing changed, where there would be more than 24 entries.
     pub fn note(&mut self, name: u64, content: u64) -> Result<(), Full>
-        ensures test { is_ok result ≡ nat_le (length (noted kind (entry_of name content) (items_in self.old))) 24 }
+        ensures test { is_ok result ≡ nat_le (length (noted K.kind (entry_of name content) (items_in self.old))) 24 }
         ensures refused { is_ok result ≡ false → self.new ≡ self.old }
-        ensures after { items_in self.new ≡ (if is_ok result then noted kind (entry_of name content) (items_in self.old) else items_in self.old) }
-        ensures records { is_ok result ≡ true → (h : List Entry) → Records kind h self.old → Records kind (h ++ entry_of name content ∷ []) self.new }
+        ensures after { items_in self.new ≡ (if is_ok result then noted K.kind (entry_of name content) (items_in self.old) else items_in self.old) }
+        ensures records { is_ok result ≡ true → (h : List Entry) → Records K.kind h self.old → Records K.kind (h ++ entry_of name content ∷ []) self.new }
     {
         if content == K::default_content(name) {
             self.count = drop_same::<K>(&mut self.items, self.count, name);
@@ -93,7 +93,7 @@ impl<K: EntryKind> Log<K> {
 
     // Whether an entry of this name fits: one that stands there already makes room for it.
     fn has_room(&self, name: u64) -> bool
-        ensures { result ≡ nat_lt (length (other_items kind name (items_in self.now))) 24 }
+        ensures { result ≡ nat_lt (length (other_items K.kind name (items_in self.now))) 24 }
     {
         self.count < CAPACITY || self.position(name).is_some()
     }

@@ -36,15 +36,15 @@ impl<K> Log<K> {
 impl<K: EntryKind> Log<K> {
     // The content of a name: what its last entry gives it, else the default.
     pub fn content(&self, name: u64) -> u64
-        ensures value { result ≡ replay kind (entries_in self.now) name }
-        ensures replayed { (h : List Entry) → Records kind h self.now → result ≡ replay kind h name }
+        ensures value { result ≡ replay K.kind (entries_in self.now) name }
+        ensures replayed { (h : List Entry) → Records K.kind h self.now → result ≡ replay K.kind h name }
     {
         last_content::<K>(self.as_slice(), name)
     }
 
     // Where the entry of a name stands.
     pub fn position(&self, name: u64) -> Option<usize>
-        ensures { result ≡ place_from kind name 0 (entries_in self.now) }
+        ensures { result ≡ place_from K.kind name 0 (entries_in self.now) }
     {
         find::<K>(self.as_slice(), name)
     }

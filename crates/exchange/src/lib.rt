@@ -1,4 +1,6 @@
 // One request through a driver: submitted, and its answer collected.
+#![tactic(auto)]
+
 ghost use Rattle.std.specs.Prelude.{◌≡◌, [], length};
 ghost use Rattle.driver.specs.Replies.{got, request, Framed};
 ghost use Rattle.exchange.specs.Exchanges.{Exchanged, Answered};
@@ -15,7 +17,7 @@ pub fn exchange<D: Driver>(
 ) -> Result<Collected, Refusal>
     ensures fine { D.Driver.ok driver.old → D.Driver.ok driver.new }
     ensures calls { D.Driver.ok driver.old → Exchanged D.Driver.steps driver.old (request header payload.now) (length buffer.old) (got buffer.new result) driver.new }
-    ensures answer { D.Driver.ok driver.old → (D.Driver.state driver.old).waiting ≡ [] → Answered C-as-Class.rules (D.Driver.state driver.old) (request header payload.now) (length buffer.old) (D.Driver.fault driver.new) (got buffer.new result) (D.Driver.state driver.new) }
+    ensures answer { D.Driver.ok driver.old → (D.Driver.state driver.old).waiting ≡ [] → Answered D.C.Class.rules (D.Driver.state driver.old) (request header payload.now) (length buffer.old) (D.Driver.fault driver.new) (got buffer.new result) (D.Driver.state driver.new) }
     ensures frame { D.Driver.ok driver.old → Framed buffer.old buffer.new result }
 {
     driver.submit(header, payload)?;

@@ -23,7 +23,7 @@ impl<D: Driver> Faulty<D> {
     // A layer over a driver, down, with no call counted yet.
     pub fn new(below: D, number: u32, way: u32) -> Faulty<D>
         ensures value { result ≡ made (shut (pair 2 0)) (record { made = 0; number = number; way = way }) below }
-        ensures fine { D.Driver.ok below → LayerOk C-as-Class.rules D.Driver.state D.Driver.fault D.Driver.steps D.Driver.ok result }
+        ensures fine { D.Driver.ok below → LayerOk D.C.Class.rules D.Driver.state D.Driver.fault D.Driver.steps D.Driver.ok result }
     {
         Faulty::counted_from(below, 0, number, way)
     }
@@ -31,7 +31,7 @@ impl<D: Driver> Faulty<D> {
     // The same, with so many calls counted already.
     pub fn counted_from(below: D, made: u32, number: u32, way: u32) -> Faulty<D>
         ensures value { result ≡ record { door = shut (pair 2 0); plan = record { made = made; number = number; way = way }; below = below } }
-        ensures fine { D.Driver.ok below → LayerOk C-as-Class.rules D.Driver.state D.Driver.fault D.Driver.steps D.Driver.ok result }
+        ensures fine { D.Driver.ok below → LayerOk D.C.Class.rules D.Driver.state D.Driver.fault D.Driver.steps D.Driver.ok result }
     {
         Faulty {
             door: Door {

@@ -1,3 +1,5 @@
 // Examples of the fault layer, each proved safe and then run.
+#![tactic(auto)]
+
 #[cfg(test)]
 mod failures;

@@ -1,4 +1,6 @@
 // The frames of the arrivals at a wire.
+#![tactic(auto)]
+
 mod seeking;
 mod survey;
 mod surveying;

@@ -1,6 +1,8 @@
 // Stores a burst of orders: takes the frames that arrive on a wire, writes each to a disk and reads it
 // back, announces it on a speaker and acknowledges it on the wire, all through drivers. With two numbers
 // as arguments, the network call of the first number fails in the way of the second.
+#![tactic(auto)]
+
 mod audit;
 mod burst;
 mod pile;

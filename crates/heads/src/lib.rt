@@ -1,4 +1,6 @@
 // What a queue keeps of a request, and how requests lie in a list of bytes.
+#![tactic(auto)]
+
 pub mod head;
 mod marking;
 

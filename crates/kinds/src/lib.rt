@@ -1,4 +1,6 @@
 // The kinds of entries: which names are the same, and what content each has by default.
+#![tactic(auto)]
+
 mod kind;
 mod membership;
 mod setting;

@@ -1,4 +1,6 @@
 // The log on examples, with the settings of the block class.
+#![tactic(auto)]
+
 mod client;
 mod digit;
 #[cfg(test)]

@@ -1,4 +1,6 @@
 // Marks on entries: which have been handed on, and which not yet.
+#![tactic(auto)]
+
 ghost use Rattle.std.specs.Prelude.{◌≡◌, Bool, false, not, map, count_by};
 ghost use Rattle.marks.specs.First.{firstFrom};
 
@@ -19,7 +21,7 @@ pub trait Marked {
 
 // The index of the first entry that is not handed on, if there is one.
 pub fn first_unhanded<T: Marked>(xs: &[T]) -> Option<usize>
-    ensures { result ≡ firstFrom handed 0 xs.now }
+    ensures { result ≡ firstFrom T.handed 0 xs.now }
 {
     for (i, x) in xs.iter().enumerate() {
         if !x.is_handed() {
@@ -31,7 +33,7 @@ pub fn first_unhanded<T: Marked>(xs: &[T]) -> Option<usize>
 
 // How many entries are not handed on.
 pub fn unhanded<T: Marked>(xs: &[T]) -> usize
-    ensures { result ≡ count_by (λ x. not (handed x)) xs.now }
+    ensures { result ≡ count_by (λ x. not (T.handed x)) xs.now }
 {
     let mut n = 0;
     for x in xs {
@@ -44,7 +46,7 @@ pub fn unhanded<T: Marked>(xs: &[T]) -> usize
 
 // Takes every mark away.
 pub fn unhand_all<T: Marked>(xs: &mut [T])
-    ensures { xs.new ≡ map (remarked false) xs.old }
+    ensures { xs.new ≡ map (T.remarked false) xs.old }
 {
     for x in xs.iter_mut() {
         x.mark(false);

@@ -1,4 +1,6 @@
 // What every layer speaks of: classes of devices, and why a call is refused.
+#![tactic(auto)]
+
 mod class;
 mod codes;
 pub mod refusal;

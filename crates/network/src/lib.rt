@@ -1,4 +1,6 @@
 // Network devices: the class, and a wire.
+#![tactic(auto)]
+
 mod class;
 pub mod op;
 mod receiving;

@@ -1,4 +1,6 @@
 // A queue of requests, the oldest first, in memory that is part of its value: making it cannot fail.
+#![tactic(auto)]
+
 mod bytes;
 mod emptying;
 mod filling;

@@ -1,4 +1,6 @@
 // Tests of the queue, in a crate of their own: a crate with tests is proved twice.
+#![tactic(auto)]
+
 #[cfg(test)]
 mod edges;
 #[cfg(test)]

@@ -2,6 +2,7 @@
 use model::Refusal;
 use queue::{Head, Queue};
 use std::alloc::{AllocError, Global};
+use std::process::Abort;
 use std::test::*;
 
 #[derive(Drop)]
@@ -64,23 +65,23 @@ impl PlainQueue {
     }
 
     // Whether a queue keeps the same, as far as its calls tell.
-    pub(crate) fn matches(&self, q: &Queue) -> Result<(), Fail> {
+    pub(crate) fn matches(&self, rt: &impl Abort, q: &Queue) -> Result<(), Fail> {
         let mut used = 0usize;
         let mut unhanded = 0usize;
         let mut first = None;
         for (i, plain) in self.list.iter().enumerate() {
-            assert_eq!(q.request(i), Some(plain.head));
-            assert_eq!(q.payload(i), Some(plain.payload.as_slice()));
+            assert_eq!(rt; q.request(i), Some(plain.head));
+            assert_eq!(rt; q.payload(i), Some(plain.payload.as_slice()));
             used = used.saturating_add(plain.payload.len());
             if !plain.head.handed {
                 unhanded = unhanded.saturating_add(1);
                 first = first.or(Some(i));
             }
         }
-        assert_eq!(q.len(), self.list.len());
-        assert_eq!(q.used(), used);
-        assert_eq!(q.unhanded(), unhanded);
-        assert_eq!(q.first_unhanded(), first);
+        assert_eq!(rt; q.len(), self.list.len());
+        assert_eq!(rt; q.used(), used);
+        assert_eq!(rt; q.unhanded(), unhanded);
+        assert_eq!(rt; q.first_unhanded(), first);
         Ok(())
     }
 }

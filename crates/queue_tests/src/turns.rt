@@ -70,7 +70,7 @@ fn as_a_plain_list(rt: HostRuntime) -> Result<(), Fail> {
                 plain.unhand_all();
             }
         }
-        plain.matches(&q)?;
+        plain.matches(&rt, &q)?;
     }
     assert!(rt; added > 20 * 16384, "the store was gone through too seldom");
     Ok(())

@@ -1,4 +1,6 @@
 // What the gateway sends back, and what its devices count.
+#![tactic(auto)]
+
 ghost use Rattle.std.specs.Prelude.{◌≡◌, length};
 ghost use Rattle.reply.specs.Replies.{reply_to, le_at};
 

@@ -1,4 +1,6 @@
 // Sound devices: the class, and a speaker.
+#![tactic(auto)]
+
 mod class;
 pub mod op;
 mod speaker;

@@ -1,4 +1,6 @@
 // A store of frames: records of whole blocks on a disk.
+#![tactic(auto)]
+
 mod blocks;
 mod records;
 mod store;

@@ -10,15 +10,15 @@ step : {X : Type 0} (h : X → Bool) (xs : List X) (i : ℕ) (x : X) (b : Bool) 
 step h xs i x b lt is e inv =
     inv ∙ (at_drop_more (firstFrom h i) xs i x lt ∙ ap (λ v. cond v (firstFrom h (i + 1) (drop (i + 1) xs)) (Some i)) (ap h (sym is) ∙ sym e))
 
-pub returns-then-not-is-handed : goal.returns-then-not-is-handed
-returns-then-not-is-handed g c =
-    sym (step g.T.Marked.handed c.args.xs.now c.loop-i.i c.index-xs-i.result c.is-handed.result (omega arith) c.index-xs-i.is c.is-handed.ensures c.loop-i.invariant
-    ∙ cond-false _ _ _ c.if-not-is-handed.true)
+pub returns-then-not-is_handed : goal.returns-then-not-is_handed
+returns-then-not-is_handed g c =
+    sym (step g.T.Marked.handed c.args.xs.now c.loop-i.i c.index-xs-i.result c.is_handed.result (omega arith) c.index-xs-i.is c.is_handed.ensures c.loop-i.invariant
+    ∙ cond-false _ _ _ c.if-not-is_handed.true)
 
 pub loop-i-preserved : goal.loop-i-preserved
 loop-i-preserved g c =
-    step g.T.Marked.handed c.args.xs.now c.loop-i.i c.index-xs-i.result c.is-handed.result (omega arith) c.index-xs-i.is c.is-handed.ensures c.loop-i.invariant
-    ∙ cond-true _ _ _ c.if-not-is-handed.false
+    step g.T.Marked.handed c.args.xs.now c.loop-i.i c.index-xs-i.result c.is_handed.result (omega arith) c.index-xs-i.is c.is_handed.ensures c.loop-i.invariant
+    ∙ cond-true _ _ _ c.if-not-is_handed.false
 
 pub returns : goal.returns
 returns g c = sym (c.loop-i.invariant ∙ at_drop_all (firstFrom g.T.Marked.handed c.loop-i.i) c.args.xs.now c.loop-i.i (omega arith))

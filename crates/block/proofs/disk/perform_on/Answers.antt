@@ -17,9 +17,9 @@ pub returns-in-Some-Read : goal.returns-in-Some-Read
 returns-in-Some-Read c =
     let x = blocks_of c.args.memory.now in
     record {
-      performed = answered block_rules _ x x c.args.level c.args.kind c.args.address _ c.args.payload.now c.read-block.result.now c.args.answer.now _ c.allows.result
-          (c.allows.ensures ∙ ap (λ (n : ℕ). allowed block_rules n c.args.level c.args.kind c.args.address (length c.args.payload.now) (length c.args.answer.now)) c.reach-in-reach.ensures)
-          c.if-not-allows.false (reads x c.args.kind c.args.address c.args.payload.now _ (search rules) c.read-block.ensures.bytes) (omega (arith, c.read-block.ensures.len))
-          c.put-answer.ensures.buffer c.put-answer.ensures.count;
+      performed = answered block_rules _ x x c.args.level c.args.kind c.args.address _ c.args.payload.now c.read_block.result.now c.args.answer.now _ c.allows.result
+          (c.allows.ensures ∙ ap (λ (n : ℕ). allowed block_rules n c.args.level c.args.kind c.args.address (length c.args.payload.now) (length c.args.answer.now)) c.reach_in-reach.ensures)
+          c.if-not-allows.false (reads x c.args.kind c.args.address c.args.payload.now _ (search rules) c.read_block.ensures.bytes) (omega (arith, c.read_block.ensures.len))
+          c.put_answer.ensures.buffer c.put_answer.ensures.count;
       beyond = refl;
     }

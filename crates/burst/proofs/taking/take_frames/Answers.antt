@@ -29,8 +29,8 @@ loop-number-preserved g c =
       left,
     )
 
-pub returns-in-err-report-event : goal.returns-in-err-report-event
-returns-in-err-report-event g c =
+pub returns-in_err-report_event : goal.returns-in_err-report_event
+returns-in_err-report_event g c =
     let d = g.B.Driver in
     let s = d.state c.args.intake.now.store.driver in
     let m = d.state c.loop-number.intake.store.driver in
@@ -47,7 +47,7 @@ returns-in-err-report-event g c =
       disk = λ o. c.take-event.ensures.disk (fine o);
       speaker = λ o. c.take-event.ensures.speaker (c.loop-number.invariant.3 o);
       keeps = λ o. (left o).keeps;
-      left = IfOk-from_err _ _ c.from-residual.ensures.0;
+      left = IfOk-from_err _ _ c.from_residual.ensures.0;
     }
 
 pub returns-then-ends : goal.returns-then-ends

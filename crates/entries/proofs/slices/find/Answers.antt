@@ -10,14 +10,14 @@ use Rattle.entries.proofs.slices.find.Goals as goal
 pub loop-i-init : goal.loop-i-init
 loop-i-init g c = refl
 
-pub returns-then-is-same : goal.returns-then-is-same
-returns-then-is-same g c =
-    sym (cond-true _ _ _ (sym c.is-same.ensures ∙ c.if-is-same.true))
+pub returns-then-is_same : goal.returns-then-is_same
+returns-then-is_same g c =
+    sym (cond-true _ _ _ (sym c.is_same.ensures ∙ c.if-is_same.true))
     ∙ place_more g.K.EntryKind.kind c.args.name _ c.args.items.now c.loop-i.i (omega arith) c.loop-i.invariant
 
 pub loop-i-preserved : goal.loop-i-preserved
 loop-i-preserved g c =
-    sym (cond-false _ _ _ (sym c.is-same.ensures ∙ c.if-is-same.false))
+    sym (cond-false _ _ _ (sym c.is_same.ensures ∙ c.if-is_same.false))
     ∙ place_more g.K.EntryKind.kind c.args.name _ c.args.items.now c.loop-i.i (omega arith) c.loop-i.invariant
 
 pub returns : goal.returns

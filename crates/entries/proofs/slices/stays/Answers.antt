@@ -9,12 +9,12 @@ use Rattle.entries.proofs.slices.stays.Goals as goal
 pub loop-next-init : goal.loop-next-init
 loop-next-init g c = refl
 
-pub returns-then-is-same : goal.returns-then-is-same
-returns-then-is-same g c =
+pub returns-then-is_same : goal.returns-then-is_same
+returns-then-is_same g c =
     let k = g.K.EntryKind.kind in
     let e = c.args.first.now in
     let h = c.args.later.now in
-    let here = or_left _ (named k e.name (drop (c.loop-next.next-index + 1) h)) (sym c.is-same.ensures ∙ c.if-is-same.true) in
+    let here = or_left _ (named k e.name (drop (c.loop-next.next-index + 1) h)) (sym c.is_same.ensures ∙ c.if-is_same.true) in
     let is = sym (named_more k e.name _ h c.loop-next.next-index c.loop-next-test.true c.loop-next.invariant) ∙ here in
     sym (ap not (or_left _ (holds_default k e) is))
 
@@ -23,7 +23,7 @@ loop-next-preserved g c =
     let k = g.K.EntryKind.kind in
     let e = c.args.first.now in
     let h = c.args.later.now in
-    ap (λ b. b || named k e.name (drop (c.loop-next.next-index + 1) h)) c.if-is-same.ensures
+    ap (λ b. b || named k e.name (drop (c.loop-next.next-index + 1) h)) c.if-is_same.ensures
     ∙ named_more k e.name _ h c.loop-next.next-index c.loop-next-test.true c.loop-next.invariant
 
 pub returns : goal.returns
@@ -32,4 +32,4 @@ returns g c =
     let e = c.args.first.now in
     let h = c.args.later.now in
     let none = sym c.loop-next.invariant ∙ at_drop_all (named k e.name) h c.loop-next.next-index c.loop-next-test.false in
-    ap (λ x. not (eqb e.content x)) c.default-content.ensures ∙ sym (ap (λ b. not (b || holds_default k e)) none)
+    ap (λ x. not (eqb e.content x)) c.default_content.ensures ∙ sym (ap (λ b. not (b || holds_default k e)) none)

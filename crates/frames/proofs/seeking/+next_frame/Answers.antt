@@ -10,10 +10,10 @@ returns-then-rest-eq1 t c =
     let e = passed c.args.level (c.from.result * 256 + c.from-in-len2-up.result) c.args.bytes.now _ _ r (omega arith) (omega arith) (omega arith) (omega arith) c.if-level-eq0.true c.if-rest-eq1.true
     (take_rest (take (length c.args.bytes.now - 2) (drop 2 c.args.bytes.now)) (c.from.result * 256 + c.from-in-len2-up.result)) in
     record {
-      moved = ap (λ k. 2 + (c.from.result * 256 + c.from-in-len2-up.result) + k) c.next-frame-moved.ensures.moved ∙ ap (λ f. f.moved) (sym e);
-      frame = c.next-frame-moved.ensures.frame ∙ ap (λ f. f.frame) (sym e);
-      within = omega (arith, simp (length-take, length-drop) at c.next-frame-moved.ensures.within);
-      short = c.next-frame-moved.ensures.short;
+      moved = ap (λ k. 2 + (c.from.result * 256 + c.from-in-len2-up.result) + k) c.next_frame-moved.ensures.moved ∙ ap (λ f. f.moved) (sym e);
+      frame = c.next_frame-moved.ensures.frame ∙ ap (λ f. f.frame) (sym e);
+      within = omega (arith, simp (length-take, length-drop) at c.next_frame-moved.ensures.within);
+      short = c.next_frame-moved.ensures.short;
     }
 
 pub returns-else-level-eq0 : goal.returns-else-level-eq0

@@ -9,16 +9,16 @@ use Rattle.intake.proofs.wires.acknowledge.Goals as goal
 pub returns-in-default : goal.returns-in-default
 returns-in-default g c = record { fine = λ o. o; calls = λ o. no_sender (sym c.in-default.ensures) refl }
 
-pub returns-in-err-heard : goal.returns-in-err-heard
-returns-in-err-heard g c =
-    let p = err_from_is_err_and c.from-residual.result c.from-residual.ensures.1 in
+pub returns-in_err-heard : goal.returns-in_err-heard
+returns-in_err-heard g c =
+    let p = err_from_is_err_and c.from_residual.result c.from_residual.ensures.1 in
     record {
       fine = c.exchange.ensures.fine;
       calls = λ o.
           sent c.exchange.result c.in-Some.reply c.exchange.new.buffer (sym c.in-Some.ensures)
           (subst (λ (h : Header). Exchanged g.N.Driver.steps c.args.wire.now (request h c.in-Some.reply) 1514 (got c.exchange.new.buffer c.exchange.result) c.exchange.new.driver)
           c.header.ensures (c.exchange.ensures.calls o))
-          (p.1 ∙ (ap Err p.2 ∙ ap settled c.in-err-heard.ensures));
+          (p.1 ∙ (ap Err p.2 ∙ ap settled c.in_err-heard.ensures));
     }
 
 pub returns : goal.returns
@@ -29,5 +29,5 @@ returns g c =
           sent c.exchange.result c.in-Some.reply c.exchange.new.buffer (sym c.in-Some.ensures)
           (subst (λ (h : Header). Exchanged g.N.Driver.steps c.args.wire.now (request h c.in-Some.reply) 1514 (got c.exchange.new.buffer c.exchange.result) c.exchange.new.driver)
           c.header.ensures (c.exchange.ensures.calls o))
-          (ap settled c.in-ok-heard.ensures);
+          (ap settled c.in_ok-heard.ensures);
     }

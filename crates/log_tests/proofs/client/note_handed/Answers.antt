@@ -8,12 +8,12 @@ use Rattle.log_tests.proofs.client.note_handed.Goals as goal
 pub returns-in-Some : goal.returns-in-Some
 returns-in-Some g c _ =
     handed_at_place g.K.EntryKind.kind g.met.K.EntryKind.lawful (entry_of c.args.name c.args.content) (items_in c.args.log.now) (items_in c.note.new.self) _ c.in-Some.i
-    c.in-ok-note.ensures.after
+    c.in_ok-note.ensures.after
     (sym c.in-Some.ensures)
     c.hand.ensures.after
 
-pub returns-in-default : goal.returns-in-default
-returns-in-default g c _ =
+pub returns-in_default : goal.returns-in_default
+returns-in_default g c _ =
     handed_no_place g.K.EntryKind.kind g.met.K.EntryKind.lawful (entry_of c.args.name c.args.content) (items_in c.args.log.now) (items_in c.note.new.self)
-    c.in-ok-note.ensures.after
-    (sym c.in-default.ensures)
+    c.in_ok-note.ensures.after
+    (sym c.in_default.ensures)

@@ -5,8 +5,8 @@ use Rattle.heads.specs.Heads.{total}
 use Rattle.heads.proofs.Steps.{part_total, more_total}
 use Rattle.queue.proofs.reading.total_size.Goals as goal
 
-pub overflow-add-sum : goal.overflow-add-sum
-overflow-add-sum c =
+pub overflow_add-sum : goal.overflow_add-sum
+overflow_add-sum c =
     let hs = c.args.heads.now in
     let p = part_total hs c.loop-head.head-index (length hs) (omega arith) (omega arith) in
     let w = ap total (take_all (length hs) hs (omega arith)) in

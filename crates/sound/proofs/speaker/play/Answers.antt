@@ -7,5 +7,5 @@ use Rattle.sound.proofs.speaker.play.Goals as goal
 
 pub loop-left-preserved : goal.loop-left-preserved
 loop-left-preserved c =
-    ap (λ t. played c.args.level t (take (length c.loop-left.left.now - 2) (drop 2 c.loop-left.left.now))) c.add-sample-total.ensures
+    ap (λ t. played c.args.level t (take (length c.loop-left.left.now - 2) (drop 2 c.loop-left.left.now))) c.add_sample-total.ensures
     ∙ (sym (played_two c.args.level c.loop-left.total c.loop-left.left.now _ (omega (arith, ltb-false)) (take_rest c.loop-left.left.now 2)) ∙ c.loop-left.invariant)

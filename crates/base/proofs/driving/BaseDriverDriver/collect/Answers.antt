@@ -10,15 +10,15 @@ use Rattle.base.proofs.driving.BaseDriverDriver.collect.Goals as goal
 pub returns-then-not-self : goal.returns-then-not-self
 returns-then-not-self g c = record { step = λ o. down tt c.if-not-self.true refl; frame = λ o. refl }
 
-pub returns-then-buffer-answer-bytes : goal.returns-then-buffer-answer-bytes
-returns-then-buffer-answer-bytes g c = record {
+pub returns-then-buffer-answer_bytes : goal.returns-then-buffer-answer_bytes
+returns-then-buffer-answer_bytes g c = record {
   step = λ o. refuses 8 c.if-not-self.false (cond-true _ _ _ (lt-ltb (length c.args.buffer.now) g.V.C.Class.rules.longest (omega arith))) refl;
   frame = λ o. refl;
 }
 
-pub returns-in-default : goal.returns-in-default
-returns-in-default g c = record {
-  step = λ o. idles c.if-not-self.false (cond-false _ _ _ (le-ltb (length c.args.buffer.now) g.V.C.Class.rules.longest (omega arith))) (none_of (kept c.args.self.now.queue) c.in-default.ensures) refl;
+pub returns-in_default : goal.returns-in_default
+returns-in_default g c = record {
+  step = λ o. idles c.if-not-self.false (cond-false _ _ _ (le-ltb (length c.args.buffer.now) g.V.C.Class.rules.longest (omega arith))) (none_of (kept c.args.self.now.queue) c.in_default.ensures) refl;
   frame = λ o. refl;
 }
 
@@ -31,7 +31,7 @@ returns g c = record {
       let v = c.content.ensures.value in
       let f = value_fits u s 0 b o in
       let m = b.values 0 in
-      collected u s (kept c.args.self.now.queue) (kept c.pop.new.self) c.in-Some.head c.low-level.result c.oldest-payload.result.now c.args.buffer.now c.perform-length.new.answer c.perform-length.result _ _
-      b o c.if-not-self.false (omega arith) refl c.in-Some.ensures c.pop.ensures (c.low-level.ensures (omega arith) ∙ v) c.oldest-payload.ensures c.perform-length.ensures;
+      collected u s (kept c.args.self.now.queue) (kept c.pop.new.self) c.in-Some.head c.low-level.result c.oldest_payload.result.now c.args.buffer.now c.perform-length.new.answer c.perform-length.result _ _
+      b o c.if-not-self.false (omega arith) refl c.in-Some.ensures c.pop.ensures (c.low-level.ensures (omega arith) ∙ v) c.oldest_payload.ensures c.perform-length.ensures;
   frame = λ o. framed _ c.args.buffer.now c.perform-length.new.answer c.perform-length.result c.perform-length.ensures.buffer c.perform-length.ensures.count;
 }

@@ -17,4 +17,4 @@ returns g c = λ o.
     let v = c.content.ensures.value in
     let l = c.low.ensures (omega arith) in
     sym (ap (λ (b : Bool). cond b (cond (has_setting u c.args.key) (Ok (replay (setting_kind u) s.settings c.args.key)) (Err Setting)) (Err (Failed (pair 1 0)))) c.if-not-self.false
-    ∙ (ap (λ (b : Bool). cond b (Ok (replay (setting_kind u) s.settings c.args.key)) (Err Setting)) (sym c.has_setting.ensures ∙ c.if-not-has-setting.false) ∙ ap Ok (sym (l ∙ v))))
+    ∙ (ap (λ (b : Bool). cond b (Ok (replay (setting_kind u) s.settings c.args.key)) (Err Setting)) (sym c.has_setting.ensures ∙ c.if-not-has_setting.false) ∙ ap Ok (sym (l ∙ v))))

@@ -12,13 +12,13 @@ use Rattle.base.proofs.driving.BaseDriverDriver.leave.Goals as goal
 pub returns-then-not-self : goal.returns-then-not-self
 returns-then-not-self g c = λ o. down tt c.if-not-self.true refl
 
-pub returns-then-not-has-name : goal.returns-then-not-has-name
-returns-then-not-has-name g c = λ o. refuses 4 c.if-not-self.false (cond-true _ _ _ (ap not (sym c.has-name.ensures ∙ c.if-not-has-name.true))) refl
+pub returns-then-not-has_name : goal.returns-then-not-has_name
+returns-then-not-has_name g c = λ o. refuses 4 c.if-not-self.false (cond-true _ _ _ (ap not (sym c.has_name.ensures ∙ c.if-not-has_name.true))) refl
 
 pub returns-in-Ok : goal.returns-in-Ok
 returns-in-Ok g c = λ o.
     let s = view g.V.Device.reach g.V.Device.contents c.args.self.now in
-    leaves c.if-not-self.false (cond-false _ _ _ (ap not (sym c.has-name.ensures ∙ c.if-not-has-name.false)))
+    leaves c.if-not-self.false (cond-false _ _ _ (ap not (sym c.has_name.ensures ∙ c.if-not-has_name.false)))
     (ap (λ (l : List Entry). with_roll s l) (noting (λ _. 0) c.args.name 0 (items_in c.args.self.now.roll) (items_in c.note.new.self) c.in-Ok.ensures.after))
 
 pub returns-in-Err : goal.returns-in-Err

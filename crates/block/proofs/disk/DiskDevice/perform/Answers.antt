@@ -4,7 +4,7 @@ use Rattle.block.proofs.disk.DiskDevice.perform.Goals as goal
 
 pub returns : goal.returns
 returns c =
-    let n : length c.perform-on.new.memory ≡ c.args.self.now.memory.len = omega arith in
-    let e = take_at c.perform-on.new.memory (drop (length c.perform-on.new.memory) c.args.self.now.memory.items) c.args.self.now.memory.len n in
-    let v = c.deref-mut.ensures.value in
-    record { performed = simp e (simp v at c.perform-on.ensures.performed); beyond = simp e (simp v at c.perform-on.ensures.beyond) }
+    let n : length c.perform_on.new.memory ≡ c.args.self.now.memory.len = omega arith in
+    let e = take_at c.perform_on.new.memory (drop (length c.perform_on.new.memory) c.args.self.now.memory.items) c.args.self.now.memory.len n in
+    let v = c.deref_mut.ensures.value in
+    record { performed = simp e (simp v at c.perform_on.ensures.performed); beyond = simp e (simp v at c.perform_on.ensures.beyond) }

@@ -7,5 +7,5 @@ use Rattle.entry_log.proofs.log.Log.entry.Goals as goal
 pub returns : goal.returns
 returns g c =
     c.copied.ensures
-    ∙ (got c.as-slice.result.now c.args.i c.get.result c.get.ensures.finds
-    ∙ ap (λ is. slice_get is c.args.i) c.as-slice.ensures)
+    ∙ (got c.as_slice.result.now c.args.i c.get.result c.get.ensures.lookup
+    ∙ ap (λ is. slice_get is c.args.i) c.as_slice.ensures)

@@ -22,6 +22,6 @@ returns-else-self-lt-CAPACITY g c =
     let few = q.few in
     let n = length-take-le q.count q.items (omega arith) in
     let full : length (items_in q) ≡ 24 = omega arith in
-    c.is-some.ensures
+    c.is_some.ensures
     ∙ (ap is_some c.position.ensures
     ∙ (place_room k c.args.name 0 (items_in q) ∙ ap (λ m. ltb (length (other_items k c.args.name (items_in q))) m) full))

@@ -7,13 +7,13 @@ use Rattle.entry_log.specs.Items.{items_in, fresh, other_items}
 use Rattle.entries.proofs.Updates.{noted_records, noted_default, noted_more, length_others_le}
 use Rattle.entry_log.proofs.log.Log.note.Goals as goal
 
-pub returns-then-content-default-content : goal.returns-then-content-default-content
-returns-then-content-default-content g c =
+pub returns-then-content-default_content : goal.returns-then-content-default_content
+returns-then-content-default_content g c =
     let k = g.K.EntryKind.kind in
     let q = c.args.self.now in
     let e = entry_of c.args.name c.args.content in
-    let d = noted_default k e (items_in q) (eq-eqb _ _ (c.if-content-default-content.true ∙ c.default-content.ensures)) in
-    let a = c.drop-same-self.ensures.after ∙ sym d in
+    let d = noted_default k e (items_in q) (eq-eqb _ _ (c.if-content-default_content.true ∙ c.default_content.ensures)) in
+    let a = c.drop_same-self.ensures.after ∙ sym d in
     let long = q.long in
     let few = q.few in
     let n = length-take-le q.count q.items (omega arith) in
@@ -26,15 +26,15 @@ returns-then-content-default-content g c =
       records = λ _ h r. noted_records k g.met.K.EntryKind.lawful e (items_in q) _ a h r;
     }
 
-pub returns-then-not-has-room : goal.returns-then-not-has-room
-returns-then-not-has-room g c =
+pub returns-then-not-has_room : goal.returns-then-not-has_room
+returns-then-not-has_room g c =
     let k = g.K.EntryKind.kind in
     let q = c.args.self.now in
     let e = entry_of c.args.name c.args.content in
-    let d = noted_more k e (items_in q) (ne_eqb _ _ (λ f. c.if-content-default-content.false (f ∙ sym c.default-content.ensures))) in
+    let d = noted_more k e (items_in q) (ne_eqb _ _ (λ f. c.if-content-default_content.false (f ∙ sym c.default_content.ensures))) in
     let m = ap length d in
     let p = length_push (other_items k c.args.name (items_in q)) (fresh e) in
-    let o = ltb-false (length (other_items k c.args.name (items_in q))) 24 (sym c.if-not-has-room.ensures) in
+    let o = ltb-false (length (other_items k c.args.name (items_in q))) 24 (sym c.if-not-has_room.ensures) in
     record {
       test = sym (lt-leb _ 24 (omega arith));
       refused = λ _. refl;
@@ -47,13 +47,13 @@ returns g c =
     let k = g.K.EntryKind.kind in
     let q = c.args.self.now in
     let e = entry_of c.args.name c.args.content in
-    let d = noted_more k e (items_in q) (ne_eqb _ _ (λ f. c.if-content-default-content.false (f ∙ sym c.default-content.ensures))) in
+    let d = noted_more k e (items_in q) (ne_eqb _ _ (λ f. c.if-content-default_content.false (f ∙ sym c.default_content.ensures))) in
     let m = ap length d in
     let p = length_push (other_items k c.args.name (items_in q)) (fresh e) in
-    let o = ltb-true (length (other_items k c.args.name (items_in q))) 24 (sym c.if-not-has-room.ensures) in
-    let l = ap length c.drop-same-self-2.ensures.after in
+    let o = ltb-true (length (other_items k c.args.name (items_in q))) 24 (sym c.if-not-has_room.ensures) in
+    let l = ap length c.drop_same-self-2.ensures.after in
     let t : is_ok c.append.result ≡ true = c.append.ensures.test ∙ lt-ltb _ 24 (omega arith) in
-    let a = c.append.ensures.after ∙ (cond-true _ _ _ t ∙ (ap (λ is. is ++ fresh e ∷ []) c.drop-same-self-2.ensures.after ∙ sym d)) in
+    let a = c.append.ensures.after ∙ (cond-true _ _ _ t ∙ (ap (λ is. is ++ fresh e ∷ []) c.drop_same-self-2.ensures.after ∙ sym d)) in
     record {
       test = t ∙ sym (le-leb _ 24 (omega arith));
       refused = λ f. absurd (both_ways _ f t);

@@ -8,5 +8,5 @@ use Rattle.entry_log.proofs.log.Log.unhand_all.Goals as goal
 pub returns : goal.returns
 returns g c =
     let q = c.args.self.now in
-    let a = ap (take q.count) c.unhand-all.ensures ∙ take-map (marked false) q.count q.items in
+    let a = ap (take q.count) c.unhand_all.ensures ∙ take-map (marked false) q.count q.items in
     record { after = a; same = ap entries_of a ∙ entries_unhand (items_in q) }

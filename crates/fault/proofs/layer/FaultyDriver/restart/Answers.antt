@@ -15,20 +15,20 @@ returns-in-Unmade g c = λ o. restart_unmade c.in-Unmade.fault (sym c.in-Unmade.
 pub returns-in-Dropped : goal.returns-in-Dropped
 returns-in-Dropped g c = λ o. restart_dropped c.in-Dropped.fault _ c.restart.new.self (sym c.in-Dropped.ensures.turn) (c.restart.ensures o.inner) (λ i. made (c.fail-in-Dropped.ensures i) (c.next.ensures.after i) c.restart.new.self)
 
-pub returns-in-err-answer : goal.returns-in-err-answer
-returns-in-err-answer g c = λ o.
+pub returns-in_err-answer-in-Passed : goal.returns-in_err-answer-in-Passed
+returns-in_err-answer-in-Passed g c = λ o.
     let s = c.args.self.now in
-    let p = err_from_is_err_and c.from-residual.result c.from-residual.ensures.1 in
-    let was = c.in-err-answer.was in
+    let p = err_from_is_err_and c.from_residual.result c.from_residual.ensures.1 in
+    let was = c.in_err-answer-in-Passed.was in
     let t : Faulty g.row.D.Denot = made c.heed.new.self c.next.new.self c.restart-answer.new.self in
     subst (λ (y : Reply). Steps g.D.C.Class.rules g.D.Driver.state g.D.Driver.fault g.D.Driver.steps s restart y t) (ap plain was ∙ sym (ap plain (p.1 ∙ ap Err p.2)))
-    (restart_refused c.restart-answer.new.self (subst Refuses (sym (ap plain was)) (refusal_refuses c.in-err-answer.field-0.0)) (sym c.in-Passed.ensures.turn) (c.restart-answer.ensures o.inner)
+    (restart_refused c.restart-answer.new.self (subst Refuses (sym (ap plain was)) (refusal_refuses c.in_err-answer-in-Passed.field-0.0)) (sym c.in-Passed.ensures.turn) (c.restart-answer.ensures o.inner)
     (λ i. made ((c.heed.ensures ∙ ap (heeded s.door) (plain_told c.restart-answer.result)) i) (c.next.ensures.after i) c.restart-answer.new.self))
 
-pub returns-in-ok-answer : goal.returns-in-ok-answer
-returns-in-ok-answer g c = λ o.
+pub returns-in_ok-answer-in-Passed : goal.returns-in_ok-answer-in-Passed
+returns-in_ok-answer-in-Passed g c = λ o.
     let s = c.args.self.now in
-    let was = c.in-ok-answer.was in
+    let was = c.in_ok-answer-in-Passed.was in
     restarted c.restart-answer.new.self (sym c.in-Passed.ensures.turn)
     (subst (λ (y : Reply). g.D.Driver.steps s.below restart y c.restart-answer.new.self) (ap plain was) (c.restart-answer.ensures o.inner))
     (λ i. made (opened ((c.heed.ensures ∙ ap (heeded s.door) (ap told was)) i)) (c.next.ensures.after i) c.restart-answer.new.self)

@@ -20,8 +20,8 @@ received place n t arrivals kind level moved payload frame bytes o b m f =
 pub returns-in-Some-Receive : goal.returns-in-Some-Receive
 returns-in-Some-Receive c =
     let s = c.args.self.now in
-    let rest = take_rest c.as-slice-arrivals.result.now s.place ∙ ap (λ (xs : List ℕ). drop s.place xs) c.as-slice-arrivals.ensures.value in
-    answered network_rules 1 (wire_contents s) _ c.args.level c.args.kind c.args.address _ c.args.payload.now c.next-frame-moved.result.1.now c.args.answer.now _ c.allows.result
+    let rest = take_rest c.as_slice-arrivals.result.now s.place ∙ ap (λ (xs : List ℕ). drop s.place xs) c.as_slice-arrivals.ensures.value in
+    answered network_rules 1 (wire_contents s) _ c.args.level c.args.kind c.args.address _ c.args.payload.now c.next_frame-moved.result.1.now c.args.answer.now _ c.allows.result
     c.allows.ensures c.if-not-allows.false
-    (received s.place s.sent s.total (vec_items s.arrivals) c.args.kind c.args.level c.next-frame-moved.result.0 c.args.payload.now c.next-frame-moved.result.1.now _ (search rules) rest c.next-frame-moved.ensures.moved c.next-frame-moved.ensures.frame)
-    c.next-frame-moved.ensures.short c.put-answer-count.ensures.buffer c.put-answer-count.ensures.count
+    (received s.place s.sent s.total (vec_items s.arrivals) c.args.kind c.args.level c.next_frame-moved.result.0 c.args.payload.now c.next_frame-moved.result.1.now _ (search rules) rest c.next_frame-moved.ensures.moved c.next_frame-moved.ensures.frame)
+    c.next_frame-moved.ensures.short c.put_answer-count.ensures.buffer c.put_answer-count.ensures.count

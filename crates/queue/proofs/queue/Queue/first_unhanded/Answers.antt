@@ -10,6 +10,6 @@ unfolding kept
 returns c =
     let q = c.args.self.now in
     let z : q.count - 0 ≡ q.count = omega arith in
-    c.first-unhanded.ensures
+    c.first_unhanded.ensures
     ∙ (ap (λ n. firstFrom (λ h. h.handed) 0 (take n q.heads)) z
     ∙ sym (first_laid 0 (take q.count q.heads) (drop q.start q.store)))

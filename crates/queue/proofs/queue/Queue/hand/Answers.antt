@@ -7,24 +7,17 @@ use Rattle.heads.proofs.Steps.{hand_total, hand_laid}
 use Rattle.queue.proofs.Whole.{kept_length}
 use Rattle.queue.proofs.queue.Queue.hand.Goals as goal
 
-pub invariant-of-self : goal.invariant-of-self
-invariant-of-self c =
-    let q = c.args.self.now in (
-      length-set _ _ _ ∙ q.places,
-      (
-        q.room,
-        (
-          q.few,
-          (
-            q.small,
-            (
-              q.within,
-              (hand_total q.heads q.count c.args.i c.if-i-self.true ∙ q.sizes, tt),
-            ),
-          ),
-        ),
-      ),
-    )
+pub invariant_of-self : goal.invariant_of-self
+invariant_of-self c =
+    let q = c.args.self.now in
+    record {
+      places = length-set _ _ _ ∙ q.places;
+      room = q.room;
+      few = q.few;
+      small = q.small;
+      within = q.within;
+      sizes = hand_total q.heads q.count c.args.i c.if-i-self.true ∙ q.sizes;
+    }
 
 pub returns-then-i-self : goal.returns-then-i-self
 unfolding kept

@@ -10,7 +10,7 @@ returns-then-n-self c =
     let q = c.args.self.now in
     let sizes = q.sizes in
     record {
-      same = laid_same (take q.count q.heads) c.move-down.new.s (drop q.start q.store) q.used (omega arith) c.move-down.ensures;
+      same = laid_same (take q.count q.heads) c.move_down.new.s (drop q.start q.store) q.used (omega arith) c.move_down.ensures;
       count = refl;
       used = refl;
       room = omega arith;

@@ -29,23 +29,23 @@ within q i n e lt =
     let p = payload_within q i (omega arith) in
     omega arith
 
-pub total-size-requires : goal.total-size-requires
-total-size-requires c =
+pub total_size-requires : goal.total_size-requires
+total_size-requires c =
     let p = within c.args.self.now c.args.i c.len.result c.len.ensures.value c.if-i-len.false in
     omega arith
 
-pub overflow-add-at : goal.overflow-add-at
-overflow-add-at c =
+pub overflow_add-at : goal.overflow_add-at
+overflow_add-at c =
     let p = within c.args.self.now c.args.i c.len.result c.len.ensures.value c.if-i-len.false in
     omega arith
 
-pub overflow-add-result : goal.overflow-add-result
-overflow-add-result c =
+pub overflow_add-result : goal.overflow_add-result
+overflow_add-result c =
     let p = within c.args.self.now c.args.i c.len.result c.len.ensures.value c.if-i-len.false in
     omega arith
 
-pub slice-bounds-result-end : goal.slice-bounds-result-end
-slice-bounds-result-end c =
+pub slice_bounds-result-end : goal.slice_bounds-result-end
+slice_bounds-result-end c =
     let p = within c.args.self.now c.args.i c.len.result c.len.ensures.value c.if-i-len.false in
     omega arith
 
@@ -53,4 +53,4 @@ pub returns : goal.returns
 returns c =
     let q = c.args.self.now in
     let l = kept_length q in
-    payload_at q c.args.i c.total-size.result (omega arith) (c.total-size.ensures ∙ before q c.args.i)
+    payload_at q c.args.i c.total_size.result (omega arith) (c.total_size.ensures ∙ before q c.args.i)

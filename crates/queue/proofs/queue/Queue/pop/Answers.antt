@@ -12,30 +12,35 @@ returns-then-self-eq0 c =
     let e = kept_none c.args.self.now c.if-self-eq0.true in
     e ∙ sym (ap (drop 1) e)
 
-pub overflow-add-self : goal.overflow-add-self
-overflow-add-self c =
+pub overflow_add-self : goal.overflow_add-self
+overflow_add-self c =
     let p = payload_within c.args.self.now 0 (omega arith) in
     omega arith
 
-pub overflow-sub-self-2 : goal.overflow-sub-self-2
-overflow-sub-self-2 c =
+pub overflow_sub-self-2 : goal.overflow_sub-self-2
+overflow_sub-self-2 c =
     let p = payload_within c.args.self.now 0 (omega arith) in
     omega arith
 
-pub invariant-of-self : goal.invariant-of-self
-invariant-of-self c =
+pub invariant_of-self : goal.invariant_of-self
+invariant_of-self c =
     let q = c.args.self.now in
     let places = q.places in
     let p = payload_within q 0 (omega arith) in
-    let t = pop_total q.heads c.rotate-left.new.self q.count q.used (omega arith) (omega arith) q.sizes c.rotate-left.ensures.after in (
-      c.rotate-left.ensures.len ∙ places,
-      (q.room, (omega arith, (omega arith, (omega arith, (t.1, tt))))),
-    )
+    let t = pop_total q.heads c.rotate_left.new.self q.count q.used (omega arith) (omega arith) q.sizes c.rotate_left.ensures.after in
+    record {
+      places = c.rotate_left.ensures.len ∙ places;
+      room = q.room;
+      few = omega arith;
+      small = omega arith;
+      within = omega arith;
+      sizes = t.1;
+    }
 
 pub returns : goal.returns
 unfolding kept
 returns c =
     let q = c.args.self.now in
     let places = q.places in
-    ap (laid (take (q.count - 1) c.rotate-left.new.self)) (sym (drop-drop (get_or q.heads 0 unused).size q.start q.store))
-    ∙ pop_laid q.heads c.rotate-left.new.self q.count (drop q.start q.store) (omega arith) (omega arith) c.rotate-left.ensures.after
+    ap (laid (take (q.count - 1) c.rotate_left.new.self)) (sym (drop-drop (get_or q.heads 0 unused).size q.start q.store))
+    ∙ pop_laid q.heads c.rotate_left.new.self q.count (drop q.start q.store) (omega arith) (omega arith) c.rotate_left.ensures.after
