@@ -1,16 +1,16 @@
 -- What an exchange comes to, by the driver rules.
-use Rattle.std.proofs.Common.{◌≡◌, ℕ, true, false, List, [], ◌∷◌, ◌++◌, Some, None, Err, Result, sym, refl, ap, ◌∙◌, subst, inl, inr, arith}
+use Rattle.std.proofs.Common.{◌≡◌, ℕ, true, false, List, [], ◌∷◌, ◌++◌, None, Err, Result, sym, refl, ap, ◌∙◌, subst, inl, inr, arith}
 use Rattle.std.proofs.lemmas.Bool.{both_ways}
 use Rattle.model.specs.Requests.{Request, Contents, onto}
 use Rattle.model.specs.Rules.{Rules}
-use Rattle.driver.specs.States.{State, bare, holding}
-use Rattle.driver.specs.Calls.{Call, Reply, submit, collect, accepted, done, lost, idle, notyet, failed, refused}
+use Rattle.driver.specs.States.{State, holding}
+use Rattle.driver.specs.Calls.{Call, Reply, submit, collect, accepted, failed}
 use Rattle.model.specs.declared.refusal.Fault.{Fault}
 use Rattle.model.specs.declared.refusal.Refusal.{Refusal}
-use Rattle.driver.specs.Replies.{Refuses, pair, plain, got, bytes_of, refusal, Framed}
+use Rattle.driver.specs.Replies.{Refuses, pair, plain, got, bytes_of, Framed}
 use Rattle.driver.specs.declared.answers.Collected.{Collected}
 use Rattle.driver.proofs.Facts.{refusal_refuses, refusal_bytes}
-use Rattle.driver.specs.Rules.{Rule, Collects, Spoiled, untouched, performed, finds_none, finds_done, finds_lost, finds_same, finds_early, is_down, fails, refuses, submits, collects, tests, first, after, Perhaps}
+use Rattle.driver.specs.Rules.{Rule, Collects, untouched, performed, finds_none, finds_done, finds_lost, finds_same, finds_early, is_down, fails, refuses, submits, collects, tests, first, after, Perhaps}
 use Rattle.exchange.specs.Exchanges.{Exchanged, Answered, turned_away, collected, is_done, is_lost, is_open, is_failed, is_refused, is_short}
 
 head : {p q : Request} {qs : List Request} → p ∷ [] ≡ q ∷ qs → q ≡ p

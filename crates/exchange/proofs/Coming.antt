@@ -1,5 +1,5 @@
 -- What an exchange of a request that the class and the tables allow comes to, by the answer that the code sees.
-use Rattle.std.proofs.Common.{◌≡◌, ℕ, ◌+◌, ◌<◌, ◌≤◌, true, false, not, ltb, leb, List, [], ◌∷◌, length, take, Some, None, Ok, Err, Result, sym, refl, ap, ◌∙◌, arith}
+use Rattle.std.proofs.Common.{◌≡◌, ℕ, ◌+◌, ◌<◌, ◌≤◌, true, false, not, ltb, leb, List, [], ◌∷◌, length, take, None, Ok, Err, Result, sym, ap, ◌∙◌, arith}
 use Rattle.std.proofs.lemmas.Bool.{cond-false, le-ltb, lt-leb}
 use Rattle.model.specs.Requests.{Request, Contents}
 use Rattle.model.specs.Rules.{Rules}
@@ -7,8 +7,8 @@ use Rattle.model.specs.declared.refusal.Fault.{Fault}
 use Rattle.model.specs.declared.refusal.Refusal.{Refusal}
 use Rattle.model.specs.declared.refusal.Refusal.TheVariants.{Failed, Setting, Value, Name, Kind, Address, Payload, Answer, Roll, Full, Room, Phase, Unfinished}
 use Rattle.driver.specs.States.{State, holding}
-use Rattle.driver.specs.Calls.{Reply, submit, collect, failed, refused, idle}
-use Rattle.driver.specs.Replies.{got, pair}
+use Rattle.driver.specs.Calls.{submit, collect, failed, refused, idle}
+use Rattle.driver.specs.Replies.{got}
 use Rattle.driver.specs.Rules.{tests, first, after, weight, Perhaps}
 use Rattle.driver.specs.declared.answers.Collected.{Collected}
 use Rattle.driver.specs.declared.answers.Collected.TheVariants.{Done, Lost, Idle, NotYet}

@@ -3,7 +3,7 @@ use Rattle.std.specs.Prelude.{◌≡◌, ℕ, true, false, List, [], ◌∷◌, 
 use Rattle.model.specs.Requests.{Request, Contents}
 use Rattle.model.specs.Rules.{Rules}
 use Rattle.model.specs.declared.refusal.Fault.{Fault}
-use Rattle.driver.specs.States.{State, bare, holding}
+use Rattle.driver.specs.States.{State, holding}
 use Rattle.driver.specs.Calls.{Call, Reply, submit, collect, accepted, done, lost, notyet, failed, refused}
 use Rattle.driver.specs.Replies.{Refuses, pair}
 use Rattle.driver.specs.Rules.{tests, first, after, Perhaps}

@@ -1,6 +1,6 @@
-use Rattle.std.proofs.Common.{◌≡◌, length, Err, ap, ◌∙◌}
+use Rattle.std.proofs.Common.{length, Err, ap, ◌∙◌}
 use Rattle.std.proofs.lemmas.Result.{err_from_is_err_and}
-use Rattle.driver.specs.Calls.{Call, Reply, submit, accepted}
+use Rattle.driver.specs.Calls.{submit, accepted}
 use Rattle.driver.specs.Replies.{request, got}
 use Rattle.exchange.specs.Exchanges.{Exchanged, collected}
 use Rattle.exchange.proofs.Answering.{still_ok, answers, refused_first, refused_frame}
@@ -20,9 +20,9 @@ returns-in_err-submit g c =
     let made : d.ok s → Exchanged d.steps s q room (got c.args.buffer.now c.from_residual.result) t =
     λ o. refused_first d.steps s t q room c.args.buffer.now c.submit.result c.from_residual.result x c.in_err-submit.was e (c.submit.ensures o) in
     record {
-      fine = λ o. still_ok g.C.Class.rules d.state d.fault d.ok d.steps m.keeps m.stays m.pairs s q room (got c.args.buffer.now c.from_residual.result) t o (made o);
+      fine = λ o. still_ok g.D.C.Class.rules d.state d.fault d.ok d.steps m.keeps m.stays m.pairs s q room (got c.args.buffer.now c.from_residual.result) t o (made o);
       calls = made;
-      answer = λ o w. answers g.C.Class.rules d.state d.fault d.ok d.steps m.keeps m.stays m.pairs s q room (got c.args.buffer.now c.from_residual.result) t o w (made o);
+      answer = λ o w. answers g.D.C.Class.rules d.state d.fault d.ok d.steps m.keeps m.stays m.pairs s q room (got c.args.buffer.now c.from_residual.result) t o w (made o);
       frame = λ o. refused_frame c.args.buffer.now c.from_residual.result x e;
     }
 
@@ -38,8 +38,8 @@ returns g c =
     let made : d.ok s → Exchanged d.steps s q room (got c.collect.new.buffer c.collect.result) t =
     λ o. collected c.submit.new.self (c.in_ok-submit.ensures o) (c.collect.ensures.step (mid o)) in
     record {
-      fine = λ o. still_ok g.C.Class.rules d.state d.fault d.ok d.steps m.keeps m.stays m.pairs s q room (got c.collect.new.buffer c.collect.result) t o (made o);
+      fine = λ o. still_ok g.D.C.Class.rules d.state d.fault d.ok d.steps m.keeps m.stays m.pairs s q room (got c.collect.new.buffer c.collect.result) t o (made o);
       calls = made;
-      answer = λ o w. answers g.C.Class.rules d.state d.fault d.ok d.steps m.keeps m.stays m.pairs s q room (got c.collect.new.buffer c.collect.result) t o w (made o);
+      answer = λ o w. answers g.D.C.Class.rules d.state d.fault d.ok d.steps m.keeps m.stays m.pairs s q room (got c.collect.new.buffer c.collect.result) t o w (made o);
       frame = λ o. c.collect.ensures.frame (mid o);
     }
