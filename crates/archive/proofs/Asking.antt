@@ -1,5 +1,5 @@
 -- What a driver makes of a request to write or to read one block of its disk.
-use Rattle.std.proofs.Common.{◌≡◌, ℕ, ◌+◌, ◌*◌, ◌<◌, ◌≤◌, Bool, true, false, eqb, ◌⊎◌, List, [], ◌∷◌, length, take, None, Ok, Err, Decides, Result, sym, refl, ap, ◌∙◌, subst, inl, inr, arith}
+use Rattle.std.proofs.Common.{◌≡◌, ℕ, ◌<◌, ◌≤◌, Bool, false, List, [], length, take, Ok, Err, Decides, Result, sym, refl, ap, ◌∙◌, subst, inl, inr, arith}
 use Rattle.std.proofs.lemmas.List.{take_all, length-take}
 use Rattle.std.proofs.lemmas.Bool.{false≢true, true≢false, eq-eqb}
 use Rattle.model.specs.Requests.{Request, Contents}
@@ -7,16 +7,15 @@ use Rattle.model.specs.declared.refusal.Fault.{Fault}
 use Rattle.model.specs.declared.refusal.Refusal.{Refusal}
 use Rattle.model.specs.declared.refusal.Refusal.TheVariants.{Failed}
 use Rattle.block.specs.Blocks.{block_rules, block_at, with_block}
-use Rattle.driver.specs.States.{State, holding}
-use Rattle.driver.specs.Calls.{submit, collect}
+use Rattle.driver.specs.States.{State}
 use Rattle.driver.specs.Replies.{got}
-use Rattle.driver.specs.Rules.{tests, first, after, Perhaps}
+use Rattle.driver.specs.Rules.{Perhaps}
 use Rattle.driver.specs.declared.answers.Collected.{Collected}
 use Rattle.exchange.specs.Exchanges.{Answered}
 use Rattle.exchange.proofs.Coming.{Came, came, came_done, came_lost, came_open, came_failed, taken_first, long_enough}
-use Rattle.archive.specs.declared.store.StoreError.{StoreError}
-use Rattle.archive.specs.declared.store.StoreError.TheVariants.{Refused, Unanswered}
-use Rattle.archive.specs.Disks.{disk, on_disk, with_disk, told, Stuck, stuck_failed, stuck_open, Wrote, wrote, not_wrote, Compared, compared, not_compared}
+use Rattle.archive.specs.declared.archive.StoreError.{StoreError}
+use Rattle.archive.specs.declared.archive.StoreError.TheVariants.{Refused}
+use Rattle.archive.specs.Disks.{disk, with_disk, told, Stuck, stuck_failed, stuck_open, Wrote, wrote, not_wrote, Compared, compared, not_compared}
 
 abbrev asks : ℕ → ℕ → ℕ → List ℕ → Request
 asks tag kind a payload = record { tag = tag; kind = kind; address = a; payload = payload }

@@ -1,18 +1,17 @@
 -- What a store holds after its driver was asked to write or to read a record.
-use Rattle.std.proofs.Common.{◌≡◌, ℕ, ◌+◌, ◌*◌, ◌<◌, ◌≤◌, Bool, ◌⊎◌, List, [], length, take, drop, Ok, Err, Decides, Result, sym, refl, ap, ◌∙◌, subst, inl, inr, arith}
-use lib.Seq.{paste}
+use Rattle.std.proofs.Common.{◌≡◌, ℕ, ◌+◌, ◌*◌, ◌≤◌, Bool, ◌⊎◌, List, [], length, take, drop, Ok, Err, Result, sym, refl, ap, ◌∙◌, subst, inl, inr, arith}
 use Rattle.std.proofs.lemmas.List.Edits.{paste_none}
 use Rattle.model.specs.Requests.{Contents}
 use Rattle.model.specs.declared.refusal.Fault.{Fault}
 use Rattle.driver.specs.States.{State}
-use Rattle.store.specs.Records.{blocks_for, padded, record_of}
+use Rattle.store.specs.Records.{blocks_for, padded}
 use Rattle.store.specs.declared.records.Record.{Record}
 use Rattle.store.proofs.Turns.{there_after, before_same, padded_length, same_length}
-use Rattle.archive.specs.declared.store.StoreError.{StoreError}
-use Rattle.archive.specs.declared.store.StoreError.TheVariants.{Damaged}
-use Rattle.archive.specs.Disks.{disk, on_disk, with_disk, Stuck, stuck_failed, stuck_open, stuck_damaged, Put, put, broke_off, Found, found, not_found}
+use Rattle.archive.specs.declared.archive.StoreError.{StoreError}
+use Rattle.archive.specs.declared.archive.StoreError.TheVariants.{Damaged}
+use Rattle.archive.specs.Disks.{disk, with_disk, Stuck, stuck_failed, stuck_open, stuck_damaged, Put, put, broke_off, Found, found, not_found}
 use Rattle.archive.specs.Rooms.{Free, Barred, too_long, too_few, not_free, Roomed, has_room, no_room}
-use Rattle.archive.specs.Stores.{with_blocks, Holds, Keeps, Saved, saves, is_barred, breaks_off, Verified, verifies, looks_barred, looks_stuck}
+use Rattle.archive.specs.Stores.{with_blocks, Holds, Keeps, Saved, saves, breaks_off, Verified, verifies, looks_stuck}
 use Rattle.archive.proofs.Putting.{unchanged}
 
 -- the same state keeps everything

@@ -1,16 +1,16 @@
 -- Blocks that are written and read back, one after the other.
-use Rattle.std.proofs.Common.{◌≡◌, ℕ, ◌+◌, ◌-◌, ◌*◌, ◌<◌, ◌≤◌, Bool, true, false, eqb, leb, ◌⊎◌, List, [], ◌∷◌, length, take, drop, Ok, Err, Decides, Result, sym, refl, ap, ◌∙◌, subst, inl, inr, arith}
+use Rattle.std.proofs.Common.{◌≡◌, ℕ, ◌+◌, ◌-◌, ◌*◌, ◌<◌, ◌≤◌, Bool, true, false, ◌⊎◌, List, [], length, take, drop, Ok, Err, Result, sym, refl, ap, ◌∙◌, subst, inl, inr, arith}
 use lib.Seq.{paste}
 use Rattle.std.proofs.lemmas.List.Edits.{paste_none}
 use Rattle.std.proofs.lemmas.List.{take_all, length-take, length-drop}
 use Rattle.std.proofs.lemmas.Bool.{false≢true, cases_lt, cases_eq, cond-true, cond-false, and_from, and_left, le-leb, lt-leb, eq-eqb}
-use Rattle.model.specs.Requests.{Request, Contents}
+use Rattle.model.specs.Requests.{Request}
 use Rattle.model.specs.declared.refusal.Fault.{Fault}
 use Rattle.block.specs.Blocks.{block_at, with_block, fits}
 use Rattle.driver.specs.States.{State, holding}
 use Rattle.store.proofs.Turns.{there_after, write_turn, same_length, read_turn, block_of_same}
-use Rattle.archive.specs.declared.store.StoreError.{StoreError}
-use Rattle.archive.specs.declared.store.StoreError.TheVariants.{Damaged}
+use Rattle.archive.specs.declared.archive.StoreError.{StoreError}
+use Rattle.archive.specs.declared.archive.StoreError.TheVariants.{Damaged}
 use Rattle.archive.specs.Disks.{disk, on_disk, with_disk, Stuck, stuck_damaged, Wrote, wrote, not_wrote, Compared, compared, not_compared, Put, put, broke_off, Found, found, not_found}
 
 -- a block fits, and is written, or it does not, and nothing changes

@@ -1,5 +1,5 @@
 -- The disk of a block driver: what stands on it, and what one block written or read comes to.
-use Rattle.std.specs.Prelude.{◌≡◌, ℕ, ◌+◌, ◌*◌, ◌<◌, ◌≤◌, Bool, true, false, ◌⊎◌, List, [], ◌∷◌, length, take, drop, Ok, Err, Decides, Result}
+use Rattle.std.specs.Prelude.{◌≡◌, ℕ, ◌+◌, ◌*◌, ◌<◌, ◌≤◌, Bool, false, ◌⊎◌, List, [], ◌∷◌, length, take, drop, Ok, Err, Decides, Result}
 use Rattle.std.proofs.Math.Seq.{paste}
 use Rattle.model.specs.Requests.{Request, Contents}
 use Rattle.model.specs.declared.refusal.Fault.{Fault}
@@ -9,8 +9,8 @@ use Rattle.block.specs.Blocks.{block_at, with_block}
 use Rattle.driver.specs.States.{State, holding}
 use Rattle.driver.specs.declared.answers.Collected.{Collected}
 use Rattle.driver.specs.declared.answers.Collected.TheVariants.{Done, Lost, Idle, NotYet}
-use Rattle.archive.specs.declared.store.StoreError.{StoreError}
-use Rattle.archive.specs.declared.store.StoreError.TheVariants.{TooLong, Full, Busy, Refused, Unanswered, Damaged}
+use Rattle.archive.specs.declared.archive.StoreError.{StoreError}
+use Rattle.archive.specs.declared.archive.StoreError.TheVariants.{Refused, Unanswered, Damaged}
 
 -- the bytes on the disk
 abbrev pub disk : State → List ℕ

@@ -3,8 +3,8 @@ use Rattle.std.specs.Prelude.{◌≡◌, ℕ, ◌+◌, ◌<◌, ◌≤◌, List,
 use Rattle.driver.specs.States.{State}
 use Rattle.store.specs.Records.{blocks_for, padded}
 use Rattle.store.specs.declared.records.Record.{Record}
-use Rattle.archive.specs.declared.store.StoreError.{StoreError}
-use Rattle.archive.specs.declared.store.StoreError.TheVariants.{TooLong, Full, Busy}
+use Rattle.archive.specs.declared.archive.StoreError.{StoreError}
+use Rattle.archive.specs.declared.archive.StoreError.TheVariants.{TooLong, Full, Busy}
 
 -- a frame has a record, and the disk has blocks for it from a block on
 pub record Fitting (s : State) (first : ℕ) (frame : List ℕ) : Type 0 where

@@ -4,7 +4,7 @@ use Rattle.std.proofs.Math.Seq.{paste}
 use Rattle.model.specs.declared.refusal.Fault.{Fault}
 use Rattle.driver.specs.States.{State}
 use Rattle.store.specs.Records.{blocks_for, padded, record_of}
-use Rattle.archive.specs.declared.store.StoreError.{StoreError}
+use Rattle.archive.specs.declared.archive.StoreError.{StoreError}
 use Rattle.archive.specs.Disks.{disk, on_disk, with_disk, Stuck}
 use Rattle.archive.specs.Rooms.{Free, Barred}
 

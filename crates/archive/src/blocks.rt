@@ -2,7 +2,7 @@
 ghost use Rattle.std.specs.Prelude.{◌≡◌, ◌+◌, ◌*◌, ◌^◌, ◌<◌, ◌≤◌, [], length};
 ghost use Rattle.archive.specs.Disks.{told, Wrote, Compared, Put, Found};
 
-use crate::store::StoreError;
+use crate::archive::StoreError;
 use block::{Block, BlockOp};
 use driver::{Collected, Driver, Header};
 use exchange::exchange;

@@ -2,7 +2,7 @@
 ghost use Rattle.std.specs.Prelude.{◌+◌, ◌*◌, ◌^◌, ◌<◌, ◌≤◌, length, IfOk};
 ghost use Rattle.archive.specs.Rooms.{Roomed};
 
-use crate::store::StoreError;
+use crate::archive::StoreError;
 use block::Block;
 use driver::Driver;
 use store::{Record, record_of};

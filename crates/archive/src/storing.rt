@@ -1,12 +1,12 @@
 // Frames into a store, and back.
 ghost use Rattle.std.specs.Prelude.{◌≡◌, ◌*◌, length, Err, ◌≢◌};
-ghost use Rattle.archive.specs.declared.store.StoreError.TheVariants.{Damaged};
+ghost use Rattle.archive.specs.declared.archive.StoreError.TheVariants.{Damaged};
 ghost use Rattle.archive.specs.Disks.{disk};
 ghost use Rattle.archive.specs.Stores.{Saved, Keeps, Verified};
 
+use crate::archive::{Store, StoreError};
 use crate::blocks::{finds_blocks, put_blocks};
 use crate::rooms::room_for;
-use crate::store::{Store, StoreError};
 use block::Block;
 use driver::Driver;
 

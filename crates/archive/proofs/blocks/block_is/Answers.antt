@@ -1,9 +1,9 @@
-use Rattle.std.proofs.Common.{◌≡◌, Bool, [], length, take, Ok, Err, Result, sym, refl, ap, ◌∙◌, subst, arith, lit≤}
+use Rattle.std.proofs.Common.{◌≡◌, Bool, [], length, Ok, Err, Result, sym, refl, ap, ◌∙◌, subst, arith, lit≤}
 use Rattle.std.proofs.lemmas.Slice.Eq.{slice_eq-Decides}
 use Rattle.std.proofs.lemmas.List.{take_all}
 use Rattle.std.proofs.lemmas.Result.{err_from_is_err_and}
 use Rattle.std.proofs.lemmas.Bool.{lt-leb}
-use Rattle.archive.specs.declared.store.StoreError.{StoreError}
+use Rattle.archive.specs.declared.archive.StoreError.{StoreError}
 use Rattle.archive.specs.Disks.{Compared}
 use Rattle.archive.proofs.Asking.{read_err, read_ok, compared_by, too_few}
 use Rattle.archive.proofs.blocks.block_is.Goals as goal

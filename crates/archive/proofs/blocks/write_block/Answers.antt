@@ -1,6 +1,6 @@
-use Rattle.std.proofs.Common.{◌≡◌, Err, Result, sym, ap, ◌∙◌, subst, lit≤}
+use Rattle.std.proofs.Common.{Err, Result, sym, ap, ◌∙◌, subst, lit≤}
 use Rattle.std.proofs.lemmas.Result.{err_from_is_err_and}
-use Rattle.archive.specs.declared.store.StoreError.{StoreError}
+use Rattle.archive.specs.declared.archive.StoreError.{StoreError}
 use Rattle.archive.specs.Disks.{Wrote}
 use Rattle.archive.proofs.Asking.{wrote_ok, wrote_err}
 use Rattle.archive.proofs.blocks.write_block.Goals as goal

@@ -1,11 +1,11 @@
-use Rattle.std.proofs.Common.{◌≡◌, length, sym, arith}
+use Rattle.std.proofs.Common.{arith}
 use Rattle.std.proofs.lemmas.List.{nil_from_length}
 use Rattle.store.proofs.Recorded.{recorded, unrecorded, enough}
 use Rattle.archive.specs.Rooms.{has_room, no_room, too_long, too_few, not_free}
 use Rattle.archive.proofs.rooms.room_for.Goals as goal
 
-pub returns-in-default : goal.returns-in-default
-returns-in-default g c = record { safe = tt; room = λ o. no_room (too_long (unrecorded c.args.frame.now c.in-default.ensures)) }
+pub returns-in_default : goal.returns-in_default
+returns-in_default g c = record { safe = tt; room = λ o. no_room (too_long (unrecorded c.args.frame.now c.in_default.ensures)) }
 
 pub returns-then-first-reach : goal.returns-then-first-reach
 returns-then-first-reach g c =

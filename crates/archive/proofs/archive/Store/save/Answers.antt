@@ -1,11 +1,11 @@
 use Rattle.std.proofs.Common.{◌≡◌, ℕ, Ok, Err, Result, sym, refl, ap, ◌∙◌, subst, arith}
 use Rattle.std.proofs.lemmas.Result.{err_from_is_err_and}
 use Rattle.store.specs.Records.{padded}
-use Rattle.archive.specs.declared.store.StoreError.{StoreError}
+use Rattle.archive.specs.declared.archive.StoreError.{StoreError}
 use Rattle.archive.specs.Disks.{Put}
 use Rattle.archive.specs.Stores.{Saved, is_barred}
 use Rattle.archive.proofs.Keeping.{same_keeps, put_keeps, put_undamaged, put_saves, put_stops, Ready, ready, barred, barred_undamaged, asked_put}
-use Rattle.archive.proofs.store.Store.save.Goals as goal
+use Rattle.archive.proofs.archive.Store.save.Goals as goal
 
 pub returns-in_err-record : goal.returns-in_err-record
 returns-in_err-record g c =

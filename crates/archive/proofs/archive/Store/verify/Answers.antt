@@ -1,9 +1,9 @@
-use Rattle.std.proofs.Common.{◌≡◌, Bool, Err, Result, sym, refl, ap, ◌∙◌, subst}
+use Rattle.std.proofs.Common.{Bool, Err, Result, sym, refl, ap, ◌∙◌, subst}
 use Rattle.std.proofs.lemmas.Result.{err_from_is_err_and}
-use Rattle.archive.specs.declared.store.StoreError.{StoreError}
+use Rattle.archive.specs.declared.archive.StoreError.{StoreError}
 use Rattle.archive.specs.Stores.{Verified, looks_barred}
 use Rattle.archive.proofs.Keeping.{found_verifies, Ready, ready, barred, asked_found}
-use Rattle.archive.proofs.store.Store.verify.Goals as goal
+use Rattle.archive.proofs.archive.Store.verify.Goals as goal
 
 pub returns-in_err-record : goal.returns-in_err-record
 returns-in_err-record g c =
