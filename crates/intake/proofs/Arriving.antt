@@ -1,6 +1,6 @@
 -- Whether a frame arrived.
-use Rattle.std.proofs.Common.{◌≡◌, ℕ, true, false, cond, ◌&&◌, ltb, leb, List, length, take, Some, None, Option, sym, ◌∙◌, inl, inr, arith}
-use Rattle.std.proofs.lemmas.Bool.{cases_Bool, both_ways, cond-true, cond-false, and_parts, and_from, ltb-true, leb-true, lt-ltb, le-leb}
+use Rattle.std.proofs.Common.{◌≡◌, ℕ, cond, ◌&&◌, ltb, leb, List, length, take, Some, None, Option, ◌∙◌, inl, inr, arith}
+use Rattle.std.proofs.lemmas.Bool.{cases_Bool, cond-true, cond-false, and_parts, and_from, ltb-true, leb-true, lt-ltb, le-leb}
 use Rattle.intake.specs.Intakes.{Arrived}
 
 pub record Cut (buffer : List ℕ) (size : ℕ) (frame : List ℕ) : Type 0 where

@@ -1,4 +1,4 @@
-use Rattle.std.proofs.Common.{◌≡◌, ℕ, subst}
+use Rattle.std.proofs.Common.{ℕ, subst}
 use Rattle.driver.specs.Replies.{got}
 use Rattle.exchange.specs.Exchanges.{Exchanged}
 use Rattle.intake.specs.Announcing.{announced}

@@ -1,4 +1,4 @@
-use Rattle.std.proofs.Common.{◌≡◌, Ok, Err, sym, refl, ap, ◌∙◌, subst}
+use Rattle.std.proofs.Common.{Err, sym, refl, ap, ◌∙◌, subst}
 use Rattle.std.proofs.lemmas.Result.{err_from_is_err_and}
 use Rattle.driver.specs.Replies.{request, got}
 use Rattle.driver.specs.declared.answers.Header.{Header}
@@ -6,8 +6,8 @@ use Rattle.exchange.specs.Exchanges.{Exchanged}
 use Rattle.intake.specs.Wires.{settled, sent, no_sender}
 use Rattle.intake.proofs.wires.acknowledge.Goals as goal
 
-pub returns-in-default : goal.returns-in-default
-returns-in-default g c = record { fine = λ o. o; calls = λ o. no_sender (sym c.in-default.ensures) refl }
+pub returns-in_default : goal.returns-in_default
+returns-in_default g c = record { fine = λ o. o; calls = λ o. no_sender (sym c.in_default.ensures) refl }
 
 pub returns-in_err-heard : goal.returns-in_err-heard
 returns-in_err-heard g c =

@@ -1,4 +1,4 @@
-use Rattle.std.proofs.Common.{◌≡◌, [], length, subst}
+use Rattle.std.proofs.Common.{[], length, subst}
 use Rattle.driver.specs.Replies.{request, got}
 use Rattle.driver.specs.declared.answers.Header.{Header}
 use Rattle.exchange.specs.Exchanges.{Exchanged}

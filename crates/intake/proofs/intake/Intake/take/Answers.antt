@@ -1,4 +1,4 @@
-use Rattle.std.proofs.Common.{◌≡◌, ℕ, List, Ok, Err, refl, subst}
+use Rattle.std.proofs.Common.{ℕ, List, Ok, Err, refl, subst}
 use Rattle.archive.specs.Stores.{Saved}
 use Rattle.intake.specs.Wires.{Acknowledged}
 use Rattle.intake.specs.Intakes.{asks_silent, asks_ended, asks_only, asks_all}
@@ -16,13 +16,13 @@ returns-in-Err g c =
       keeps = λ o first frame b h. h;
     }
 
-pub returns-in-default : goal.returns-in-default
-returns-in-default g c =
+pub returns-in_default : goal.returns-in_default
+returns-in_default g c =
     record {
       wire = c.receive.ensures.fine;
       disk = λ o. o;
       speaker = λ o. o;
-      asked = λ o p. asks_ended c.in-Ok.size (c.in-Ok.ensures.calls o) (not_cut c.receive.new.buffer c.in-Ok.size c.in-default.ensures) refl;
+      asked = λ o p. asks_ended c.in-Ok.size (c.in-Ok.ensures.calls o) (not_cut c.receive.new.buffer c.in-Ok.size c.in_default.ensures) refl;
       shelved = λ o. (refl, refl);
       keeps = λ o first frame b h. h;
     }
