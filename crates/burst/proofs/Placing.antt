@@ -1,18 +1,18 @@
 -- One frame more of a burst.
-use Rattle.std.proofs.Common.{◌≡◌, ℕ, ◌+◌, ◌-◌, ◌^◌, ◌≤◌, min, List, [], ◌∷◌, length, take, Ok, Err, sum_by, Result, sym, refl, ap, ◌∙◌, subst, arith}
+use Rattle.std.proofs.Common.{◌≡◌, ℕ, ◌+◌, ◌≤◌, List, [], ◌∷◌, length, take, Ok, Err, refl, ap, ◌∙◌, arith}
 use Rattle.std.proofs.lemmas.List.{length-take}
 use Rattle.std.proofs.lemmas.List.Sums.{sum_by-cons}
 use Rattle.std.specs.List.{AllByRecursion as All}
 use Rattle.model.specs.declared.refusal.Fault.{Fault}
 use Rattle.driver.specs.States.{State}
 use Rattle.store.specs.Records.{blocks_for}
-use Rattle.archive.specs.declared.store.StoreError.{StoreError}
+use Rattle.archive.specs.declared.archive.StoreError.{StoreError}
 use Rattle.archive.specs.Stores.{Holds, Keeps, Saved, saves, is_barred, breaks_off}
 use Rattle.intake.specs.declared.event.Event.{Event}
 use Rattle.intake.specs.declared.event.Event.TheVariants.{Ended, Silent, NotStored, Stored, Unacknowledged}
 use Rattle.intake.specs.Intakes.{Shelved, Arrived}
 use Rattle.burst.specs.declared.tally.Tally.{Tally}
-use Rattle.burst.specs.Counts.{capped, none_yet, added, counted}
+use Rattle.burst.specs.Counts.{none_yet, added, counted}
 use Rattle.burst.specs.Bursts.{Placed, Stands, Left}
 
 -- before the first frame

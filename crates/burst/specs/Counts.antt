@@ -1,6 +1,5 @@
 -- Counting what becomes of frames.
 use Rattle.std.specs.Prelude.{ℕ, ◌+◌, ◌-◌, ◌^◌, min}
-use Rattle.archive.specs.declared.store.StoreError.{StoreError}
 use Rattle.intake.specs.declared.event.Event.{Event}
 use Rattle.intake.specs.declared.event.Event.TheVariants.{Ended, Silent, NotStored, Stored, Unacknowledged}
 use Rattle.burst.specs.declared.tally.Tally.{Tally}
