@@ -1,5 +1,5 @@
 -- From what the parts of a base driver promise to its steps.
-use Rattle.std.proofs.Common.{◌≡◌, ℕ, ◌+◌, ◌<◌, ◌≤◌, Bool, true, false, cond, not, eqb, ltb, leb, ◌⊎◌, List, [], ◌∷◌, ◌++◌, map, length, take, drop, is_ok, Some, None, Ok, Err, fold, sum_by, Option, Result, sym, refl, ap, ◌∙◌, subst, inl, inr, arith}
+use Rattle.std.proofs.Common.{◌≡◌, ℕ, ◌+◌, ◌<◌, ◌≤◌, Bool, true, false, cond, not, ltb, leb, ◌⊎◌, List, [], ◌∷◌, ◌++◌, length, take, drop, is_ok, Some, None, Ok, Err, fold, Result, sym, refl, ap, ◌∙◌, subst, inl, inr, arith}
 use lib.ListN.{length-map}
 use lib.Seq.{take-append_seam}
 use Rattle.std.specs.List.{slice_get}
@@ -11,8 +11,7 @@ use Rattle.model.specs.Rules.{Rules, Bounds, has_setting, greatest}
 use Rattle.model.specs.declared.refusal.Refusal.{Refusal}
 use Rattle.model.specs.declared.refusal.Refusal.TheVariants.{Full, Room}
 use Rattle.device.specs.Performing.{outcome, Performed}
-use Rattle.compaction.specs.declared.entry.Entry.{Entry}
-use Rattle.compaction.specs.Kinds.{Kind, by_number}
+use Rattle.compaction.specs.Kinds.{by_number}
 use Rattle.compaction.specs.Compaction.{update, entry_of}
 use Rattle.compaction.specs.Replay.{replay}
 use Rattle.entries.specs.declared.item.Item.{Item}
@@ -21,8 +20,8 @@ use Rattle.entry_log.specs.Items.{noted, entries_of}
 use Rattle.entries.proofs.Updates.{entries_noted}
 use Rattle.queue.specs.Kept.{Kept, verdict, head_of, payload_of, fresh, weight as kept_weight}
 use Rattle.heads.specs.declared.head.Head.{Head}
-use Rattle.driver.specs.States.{State, level, joined_count}
-use Rattle.driver.specs.Calls.{Reply, accepted, set, join, submit, collect, done, refused}
+use Rattle.driver.specs.States.{level, joined_count}
+use Rattle.driver.specs.Calls.{set, join, submit, collect, done}
 use Rattle.driver.specs.Rules.{tests, first, after, weight}
 use Rattle.driver.specs.Replies.{plain}
 use Rattle.basis.specs.Views.{View, Ok as Fit, meaning, with_waiting}

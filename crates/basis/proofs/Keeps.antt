@@ -1,21 +1,17 @@
 -- A base driver's steps keep the driver rules.
 use Rattle.std.proofs.Common.{◌≡◌, ℕ, Bool, true, false, List, [], refl, ap, ◌∙◌}
 use mathlib.Core.Path.{fun_ext}
-use Rattle.model.specs.Requests.{Request, Contents, Outcome}
-use Rattle.model.specs.Rules.{Rules, Bounds, has_setting, initial, greatest}
-use Rattle.driver.specs.States.{State, Table, setting, membership, default, level, put, bare, noted}
-use Rattle.driver.specs.Calls.{Call, Reply, set, join, leave, submit, collect, stop, restart, accepted, done, idle, failed, refused, Fallible}
+use Rattle.model.specs.Rules.{Rules, Bounds, initial}
+use Rattle.driver.specs.States.{State, Table, setting, membership, default, put, bare}
+use Rattle.driver.specs.Calls.{Call, Reply}
 use Rattle.driver.specs.Rules.{Rule}
 use Rattle.driver.specs.Rules as R
 use Rattle.compaction.specs.declared.entry.Entry.{Entry}
-use Rattle.compaction.specs.Kinds.{Kind, by_number}
-use Rattle.compaction.specs.Compaction.{update, others, holds_default, Apart, entry_of}
-use Rattle.compaction.specs.Replay.{replay, content_after}
-use Rattle.compaction.specs.Tally.{tally}
-use Rattle.compaction.proofs.Sameness.{by_number_lawful, by_number_exact}
+use Rattle.compaction.specs.Compaction.{update, entry_of}
+use Rattle.compaction.proofs.Sameness.{by_number_lawful}
 use Rattle.compaction.proofs.Replaying.{update_replay}
 use Rattle.kinds.specs.Kinds.{setting_kind, membership_kind}
-use Rattle.basis.specs.Views.{View, Ok, Fine, Within, meaning, remembered, with_settings, with_roll, with_waiting, cleared}
+use Rattle.basis.specs.Views.{View, Ok, meaning, remembered, cleared}
 use Rattle.basis.specs.Steps.{Step, down, refuses, sets, joins, leaves, submits, idles, does, stops, restarts}
 
 -- one more entry is one content more

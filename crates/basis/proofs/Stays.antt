@@ -1,5 +1,5 @@
 -- A base driver's steps keep it well formed, and what follows from that.
-use Rattle.std.proofs.Common.{◌≡◌, ℕ, suc, ◌+◌, ◌^◌, ◌<◌, ◌≤◌, Bool, true, false, cond, not, ◌&&◌, eqb, ltb, leb, ◌⊎◌, List, [], ◌∷◌, ◌++◌, length, Some, None, filter, Option, sym, refl, ap, ◌∙◌, subst, inl, inr, arith}
+use Rattle.std.proofs.Common.{◌≡◌, ℕ, suc, ◌^◌, ◌<◌, ◌≤◌, Bool, true, false, cond, not, eqb, leb, List, [], ◌∷◌, length, Some, None, Option, sym, refl, ap, ◌∙◌, subst, inl, inr, arith}
 use mathlib.Core.Path.{fun_ext}
 use Rattle.std.specs.List.{AllByRecursion as All}
 use Rattle.std.proofs.lemmas.List.{append-nil, length_push}
@@ -7,11 +7,11 @@ use Rattle.std.proofs.ByRecursion.{All-push, All-weaker}
 use Rattle.std.proofs.lemmas.List.Sums.{length-filter, count_by-le-length}
 use Rattle.std.proofs.lemmas.Bool.{cases_Bool, cond-true, cond-false, eqb-true, leb-false, ltb-false, ltb-true, not-false, both_ways, true≢false, and_from, lt-ltb, le-leb}
 use Rattle.device.specs.Performing.{allowed}
-use Rattle.model.specs.Requests.{Request, Contents}
-use Rattle.model.specs.Rules.{Rules, Bounds, has_setting, initial, greatest}
-use Rattle.driver.specs.States.{State, Table, setting, membership, default, level, joined_count}
-use Rattle.driver.specs.Rules.{tests, first, after}
-use Rattle.driver.specs.Calls.{Call, Reply, set, join, leave, submit, collect, stop, restart, accepted, done, idle, failed, refused, Fallible}
+use Rattle.model.specs.Requests.{Request}
+use Rattle.model.specs.Rules.{Rules, Bounds, initial, greatest}
+use Rattle.driver.specs.States.{level, joined_count}
+use Rattle.driver.specs.Rules.{tests, first}
+use Rattle.driver.specs.Calls.{Call, Reply, set, join, collect, accepted}
 use Rattle.compaction.specs.declared.entry.Entry.{Entry}
 use Rattle.compaction.specs.Kinds.{Kind, by_number}
 use Rattle.compaction.specs.Compaction.{update, others, holds_default, Apart, entry_of}
@@ -23,7 +23,7 @@ use Rattle.compaction.proofs.Standing.{apart_update}
 use Rattle.compaction.proofs.Counting.{tallied, apart_few}
 use Rattle.compaction.proofs.Replaying.{update_replay}
 use Rattle.kinds.specs.Kinds.{setting_kind, membership_kind}
-use Rattle.basis.specs.Views.{View, Ok, Fine, Within, meaning, remembered, with_settings, with_roll, with_waiting, cleared}
+use Rattle.basis.specs.Views.{View, Ok, Fine, Within, meaning, with_settings, cleared}
 use Rattle.basis.specs.Steps.{Step, down, refuses, sets, joins, leaves, submits, idles, does, stops, restarts}
 
 -- a test that did not hold, and the tests after it

@@ -1,10 +1,9 @@
 -- The steps of a base driver: it fails only while it is down, with the pair (1, 0), and answers neither lost nor not yet.
 use Rattle.std.specs.Prelude.{◌≡◌, ℕ, true, false, List, [], ◌∷◌, ◌++◌, Some, None}
-use Rattle.model.specs.Requests.{Request, Contents}
+use Rattle.model.specs.Requests.{Request}
 use Rattle.model.specs.Rules.{Rules, Bounds}
 use Rattle.compaction.specs.Compaction.{update, entry_of}
 use Rattle.kinds.specs.Kinds.{setting_kind, membership_kind}
-use Rattle.driver.specs.States.{State, bare}
 use Rattle.driver.specs.Calls.{Call, Reply, set, join, leave, submit, collect, stop, restart, accepted, done, idle, failed, refused, Fallible}
 use Rattle.driver.specs.Rules.{Rule, tests, first, after}
 use Rattle.basis.specs.Views.{View, Ok, meaning, with_settings, with_roll, with_waiting, cleared}

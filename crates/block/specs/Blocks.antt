@@ -1,5 +1,5 @@
 -- The block class: what its requests do to a memory of blocks.
-use Rattle.std.specs.Prelude.{◌≡◌, ℕ, ◌+◌, ◌*◌, Bool, true, false, cond, ◌&&◌, List, [], ◌∷◌, length, take, drop, is_some, Some, None, Option, ◌==◌, nat_le}
+use Rattle.std.specs.Prelude.{ℕ, ◌+◌, ◌*◌, Bool, false, cond, ◌&&◌, List, [], ◌∷◌, length, take, drop, is_some, Some, None, Option, ◌==◌, nat_le}
 use Rattle.std.proofs.Math.Seq.{paste}
 use Rattle.model.specs.Requests.{Contents, Outcome, untouched}
 use Rattle.model.specs.Rules.{Rules, between}

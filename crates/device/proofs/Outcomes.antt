@@ -1,7 +1,7 @@
 -- The tests of a request by their parts, and answers that fit their buffer.
-use Rattle.std.proofs.Common.{◌≡◌, ℕ, ◌<◌, ◌≤◌, Bool, true, false, cond, ◌&&◌, ltb, leb, List, length, sym, refl, ap, ◌∙◌, le_trans}
+use Rattle.std.proofs.Common.{◌≡◌, ℕ, ◌≤◌, Bool, true, false, ltb, leb, List, length, sym, refl, ◌∙◌, le_trans}
 use Rattle.std.proofs.lemmas.Bool.{and_parts, leb-true, ltb-true, le-leb, cond-true, cond-false}
-use Rattle.model.specs.Requests.{Contents, Outcome, untouched, onto}
+use Rattle.model.specs.Requests.{Contents, untouched, onto}
 use Rattle.model.specs.Rules.{Rules, greatest}
 use Rattle.device.specs.Performing.{allowed, Allowed, outcome, Performed, put, put_count}
 

@@ -1,15 +1,15 @@
 -- What a step by the rules says, whatever the reply.
-use Rattle.std.proofs.Common.{◌≡◌, ℕ, ◌<◌, ◌≤◌, Bool, true, false, cond, ◌⊎◌, List, [], ◌∷◌, ◌++◌, Some, None, Ok, Err, Option, sym, refl, ap, ◌∙◌, subst, inl, inr, arith}
+use Rattle.std.proofs.Common.{◌≡◌, ℕ, true, false, List, [], None, Ok, refl, ap, ◌∙◌, inl, inr, arith}
 use Rattle.std.proofs.lemmas.Bool.{both_ways}
 use Rattle.driver.specs.Replies.{refusal, Refuses, got, pair_of, bytes_of}
 use Rattle.model.specs.declared.refusal.Refusal.{Refusal}
 use Rattle.model.specs.declared.refusal.Refusal.TheVariants.{Failed, Setting, Value, Name, Kind, Address, Payload, Answer, Roll, Full, Room, Phase, Unfinished}
 use Rattle.driver.specs.declared.answers.Collected.{Collected}
 use Rattle.driver.specs.declared.answers.Collected.TheVariants.{Done, Lost, Idle, NotYet}
-use Rattle.model.specs.Requests.{Request, Contents}
+use Rattle.model.specs.Requests.{Contents}
 use Rattle.model.specs.Rules.{Rules}
 use Rattle.driver.specs.States.{State, bare}
-use Rattle.driver.specs.Calls.{Call, Reply, Fallible, set, join, leave, submit, collect, stop, restart, accepted, done, lost, idle, notyet, failed, refused}
+use Rattle.driver.specs.Calls.{Call, Reply, Fallible, collect, stop, restart, accepted, failed, refused}
 use Rattle.driver.specs.Rules.{Rule, Collects, Spoiled, untouched, performed, finds_none, finds_done, finds_lost, finds_same, finds_early, is_down, fails, refuses, sets, joins, leaves, submits, collects, stops, restarts, restart_fails}
 
 pub refusal_refuses : (x : Refusal) → Refuses (refusal x)

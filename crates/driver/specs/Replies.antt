@@ -1,5 +1,5 @@
 -- What each answer of a driver's calls stands for: its number, and its values.
-use Rattle.std.specs.Prelude.{◌≡◌, ℕ, Bool, cond, not, List, [], take, Some, None, Ok, Err, Option, Result, ◌==◌}
+use Rattle.std.specs.Prelude.{◌≡◌, ℕ, Bool, cond, List, [], take, Some, None, Ok, Err, Option, Result, ◌==◌}
 use Rattle.model.specs.Requests.{Request, onto}
 use Rattle.model.specs.Rules.{Rules, has_setting}
 use Rattle.model.specs.Refusals.{code}

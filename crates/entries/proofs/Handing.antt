@@ -1,5 +1,5 @@
 -- What marking does to the items of a log.
-use Rattle.std.proofs.Common.{◌≡◌, ℕ, zero, suc, ◌+◌, ◌<◌, Bool, true, false, List, [], ◌∷◌, ◌++◌, map, length, get_or, take, set, sym, refl, ap, ◌∙◌}
+use Rattle.std.proofs.Common.{◌≡◌, ℕ, zero, suc, ◌<◌, Bool, true, false, List, [], ◌∷◌, ◌++◌, map, length, get_or, take, set, sym, refl, ap, ◌∙◌}
 use Rattle.std.proofs.lemmas.List.{get_or-take, get_or_at, set_at}
 use Rattle.entries.specs.declared.item.Item.{Item}
 use Rattle.entries.specs.Items.{entries_of, marked, hand_at, blank}

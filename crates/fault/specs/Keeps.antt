@@ -1,5 +1,5 @@
 -- The fault layer's steps keep the driver rules, and its pairs are what they should be.
-use Rattle.std.specs.Prelude.{◌≡◌, ℕ, Bool, true, false, cond, ◌⊎◌, Some, None, Option, ◌≢◌, refl}
+use Rattle.std.specs.Prelude.{◌≡◌, ℕ, Bool, true, false, cond, Some, None, Option, ◌≢◌, refl}
 use Rattle.std.proofs.Common.{ap, sym, ◌∙◌, subst, subst₂, inl, inr, arith}
 use Rattle.std.proofs.lemmas.Bool.{cases_Bool, both_ways, cond-false, false≢true}
 use Rattle.model.specs.Requests.{Contents}
@@ -12,7 +12,7 @@ use Rattle.driver.specs.Replies.{pair, pair_of, Refuses}
 use Rattle.driver.proofs.Facts
 use Rattle.fault.specs.declared.parts.Faulty.{Faulty}
 use Rattle.fault.specs.declared.parts.Plan.{Plan}
-use Rattle.fault.specs.Plans.{turn, counted, shut, opened, heeded}
+use Rattle.fault.specs.Plans.{counted, shut, heeded}
 use Rattle.fault.specs.Layers.{Steps, dropping, made, layer_state, layer_fault, LayerOk, dead, unmade, dropped, passed, stopped, restart_unmade, restart_dropped, restarted, restart_refused}
 
 -- what is dropped spoils no more than the call would

@@ -1,5 +1,5 @@
 -- What a fault layer means, and its steps over those of the driver below.
-use Rattle.std.specs.Prelude.{◌≡◌, ℕ, min, true, false, cond}
+use Rattle.std.specs.Prelude.{◌≡◌, min, true, false, cond}
 use Rattle.model.specs.Rules.{Rules}
 use Rattle.model.specs.declared.refusal.Fault.{Fault}
 use Rattle.driver.specs.States.{State, bare}

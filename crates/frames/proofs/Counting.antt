@@ -1,5 +1,5 @@
 -- A count of frames that has come so far through the arrivals.
-use Rattle.std.proofs.Common.{◌≡◌, ℕ, ◌+◌, ◌*◌, ◌%◌, ◌≤◌, Bool, true, false, cond, List, length, get_or, drop, sym, refl, ap, ◌∙◌, add-zero, arith, length-drop}
+use Rattle.std.proofs.Common.{◌≡◌, ℕ, ◌+◌, ◌*◌, ◌≤◌, Bool, true, false, cond, List, length, get_or, drop, sym, refl, ap, ◌∙◌, add-zero, arith, length-drop}
 use Rattle.frames.specs.Frames.{passes}
 use Rattle.frames.specs.Surveys.{survey_of, counted}
 use Rattle.frames.specs.declared.survey.Survey.{Survey}

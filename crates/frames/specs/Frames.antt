@@ -1,5 +1,5 @@
 -- Arrivals: frames one after the other, each behind its length in two bytes, the higher first.
-use Rattle.std.specs.Prelude.{ℕ, zero, suc, ◌+◌, ◌*◌, ◌%◌, Bool, true, false, cond, ◌&&◌, List, [], ◌∷◌, length, take, ◌==◌, nat_le, slice_index}
+use Rattle.std.specs.Prelude.{ℕ, zero, suc, ◌+◌, ◌*◌, ◌%◌, Bool, cond, ◌&&◌, List, [], ◌∷◌, length, take, ◌==◌, nat_le, slice_index}
 
 -- how many bytes the place moves, and the frame that is answered
 pub record Found : Type 0 where

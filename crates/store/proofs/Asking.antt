@@ -1,5 +1,5 @@
 -- What a disk makes of a request to write or to read one of its blocks.
-use Rattle.std.proofs.Common.{◌≡◌, ℕ, ◌+◌, ◌-◌, ◌*◌, ◌<◌, ◌≤◌, eqb, ltb, leb, List, [], ◌++◌, length, take, drop, Some, sym, refl, ap, ◌∙◌, subst, arith}
+use Rattle.std.proofs.Common.{◌≡◌, ℕ, ◌+◌, ◌-◌, ◌*◌, ◌<◌, ◌≤◌, List, [], ◌++◌, length, take, drop, Some, sym, ap, ◌∙◌, arith}
 use lib.Seq.{paste}
 use Rattle.std.proofs.lemmas.List.{append-nil, drop_all, length-take, length-drop}
 use Rattle.std.proofs.lemmas.Bool.{cond-true, and_from, lt-ltb, le-leb, eq-eqb}
@@ -8,7 +8,7 @@ use Rattle.device.specs.Performing.{outcome, Performed}
 use Rattle.block.specs.declared.op.BlockOp.TheVariants.{Read, Write}
 use Rattle.block.specs.Blocks.{block_rules, block_at, act}
 use Rattle.block.specs.Disks.{reach_of, blocks_of, beyond}
-use Rattle.block.proofs.Memory.{whole_same, whole_written, block_read, blocks_length}
+use Rattle.block.proofs.Memory.{whole_same, whole_written, block_read}
 
 write_outcome : (reach a room : ℕ) (x : Contents) (zs : List ℕ) → a < reach → length zs ≡ 512 → 512 ≤ room
     → outcome block_rules reach x 0 2 a zs room ≡ act (Some Write) x a zs

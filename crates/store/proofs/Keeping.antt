@@ -1,10 +1,10 @@
 -- What a store holds after the record of a frame was written.
-use Rattle.std.proofs.Common.{◌≡◌, ℕ, ◌+◌, ◌-◌, ◌*◌, ◌≤◌, List, ◌++◌, length, take, drop, sym, refl, ap, ◌∙◌, arith}
+use Rattle.std.proofs.Common.{◌≡◌, ℕ, ◌+◌, ◌*◌, ◌≤◌, List, ◌++◌, length, take, drop, sym, ap, ◌∙◌, arith}
 use lib.Seq.{paste}
 use Rattle.std.proofs.lemmas.List.{take-take}
 use Rattle.block.specs.Disks.{reach_of}
 use Rattle.store.specs.declared.store.Store.{Store}
-use Rattle.store.specs.Records.{blocks_for, padded, record_of}
+use Rattle.store.specs.Records.{blocks_for, padded}
 use Rattle.store.specs.Stores.{bytes_of, blocks_in, with_record, Holds, Keeps}
 use Rattle.store.proofs.Turns.{there_after, before_same, padded_length, same_length}
 

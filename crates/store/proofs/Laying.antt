@@ -1,7 +1,6 @@
 -- A frame laid out behind its length.
-use Rattle.std.proofs.Common.{◌≡◌, ℕ, zero, suc, ◌+◌, ◌-◌, ◌≤◌, List, [], ◌∷◌, ◌++◌, length, drop, set, replicate, sym, refl, ap, ◌∙◌, suc-add, zero-add, arith, drop-drop}
+use Rattle.std.proofs.Common.{◌≡◌, ℕ, zero, suc, ◌+◌, ◌-◌, ◌≤◌, List, [], ◌∷◌, ◌++◌, length, drop, set, replicate, ap, ◌∙◌, suc-add, zero-add, arith, drop-drop}
 use borrow.Rule.Slice.PartMut.{put_mid}
-use Rattle.store.specs.Records.{be2, padded}
 
 pub laid : (xs ys zs : List ℕ) (a b : ℕ) → zs ≡ ys → 2 + length ys ≤ length xs
     → put_mid 2 ((2 + length ys) - 2) (set (set xs 0 a) 1 b) zs ≡ a ∷ (b ∷ (ys ++ drop (2 + length ys) xs))

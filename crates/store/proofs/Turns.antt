@@ -1,5 +1,5 @@
 -- Records in a memory of bytes: one block more of what is written or compared, and what a written record leaves.
-use Rattle.std.proofs.Common.{◌≡◌, ℕ, ◌+◌, ◌-◌, ◌*◌, ◌<◌, ◌≤◌, List, ◌++◌, length, take, drop, replicate, sym, refl, ap, ◌∙◌, arith, length-append, drop-drop, take-add, rules}
+use Rattle.std.proofs.Common.{◌≡◌, ℕ, ◌+◌, ◌-◌, ◌*◌, ◌<◌, ◌≤◌, List, ◌++◌, length, take, drop, replicate, sym, ap, ◌∙◌, arith, length-append, drop-drop, take-add, rules}
 use lib.ListN.{length-replicate}
 use lib.Seq.{paste}
 use Rattle.std.proofs.lemmas.List.{same_lists, places}

@@ -1,5 +1,5 @@
 -- What a store holds, and what it answers to one frame more.
-use Rattle.std.specs.Prelude.{◌≡◌, ℕ, ◌+◌, ◌*◌, ◌≤◌, Bool, cond, ◌&&◌, List, length, take, drop, Ok, Err, Result, nat_lt}
+use Rattle.std.specs.Prelude.{◌≡◌, ℕ, ◌+◌, ◌*◌, ◌≤◌, cond, List, length, take, drop, Ok, Err, Result, nat_lt}
 use Rattle.std.proofs.Math.Seq.{paste}
 use Rattle.block.specs.Disks.{reach_of}
 use Rattle.block.specs.Memories.{memory_of}

@@ -1,5 +1,5 @@
 -- The entry noted is marked in its place, or holds the default and has none.
-use Rattle.std.proofs.Common.{sym, ◌∙◌}
+use Rattle.std.proofs.Common.{sym}
 use Rattle.compaction.specs.Compaction.{entry_of}
 use Rattle.entry_log.specs.Items.{items_in}
 use Rattle.entries.proofs.Handed.{handed_at_place, handed_no_place}

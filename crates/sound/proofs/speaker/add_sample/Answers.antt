@@ -1,6 +1,6 @@
-use Rattle.std.proofs.Common.{◌≡◌, ◌<◌, ◌≤◌, sym, refl, ap, ◌∙◌, subst, arith, w16, w32, SFits, rules}
+use Rattle.std.proofs.Common.{◌≡◌, ◌<◌, ◌∙◌, arith, w16, w32}
 use lib.Signed.{mag}
-use Rattle.std.proofs.lemmas.Int.{to_z-of_z, to_z_pos, ints}
+use Rattle.std.proofs.lemmas.Int.{to_z-of_z, to_z_pos}
 use Rattle.sound.proofs.Totals.{product, landed}
 use Rattle.sound.proofs.speaker.add_sample.Goals as goal
 

@@ -1,4 +1,4 @@
-use Rattle.std.proofs.Common.{◌≡◌, Bool, cond, Ok, Err, sym, ap, ◌∙◌, arith}
+use Rattle.std.proofs.Common.{Bool, cond, Ok, Err, sym, ap, ◌∙◌, arith}
 use Rattle.model.specs.Rules.{has_setting}
 use Rattle.model.specs.declared.refusal.Refusal.TheVariants.{Failed, Setting}
 use Rattle.compaction.specs.Replay.{replay}

@@ -1,4 +1,4 @@
-use Rattle.std.proofs.Common.{◌≡◌, not, List, sym, refl, ap, ◌∙◌}
+use Rattle.std.proofs.Common.{not, List, sym, refl, ap, ◌∙◌}
 use Rattle.std.proofs.lemmas.Bool.{cond-true, cond-false}
 use Rattle.compaction.specs.declared.entry.Entry.{Entry}
 use Rattle.entry_log.specs.Items.{items_in}

@@ -1,5 +1,5 @@
-use Rattle.std.proofs.Common.{true, false}
-use Rattle.basis.specs.Steps.{stops, restarts}
+use Rattle.std.proofs.Common.{true}
+use Rattle.basis.specs.Steps.{restarts}
 use Rattle.entry_log.specs.Items.{entries_of}
 use Rattle.base.specs.Held.{view, requests}
 use Rattle.base.proofs.driving.BaseDriverDriver.restart.Goals as goal

@@ -1,5 +1,5 @@
-use Rattle.std.proofs.Common.{◌≡◌, ℕ, ◌<◌, ◌≤◌, true, List, sym, refl, ap, ◌∙◌, arith}
-use Rattle.model.specs.Rules.{has_setting, initial, greatest}
+use Rattle.std.proofs.Common.{List, sym, refl, ap, ◌∙◌, arith}
+use Rattle.model.specs.Rules.{initial}
 use Rattle.compaction.specs.declared.entry.Entry.{Entry}
 use Rattle.entry_log.specs.Items.{items_in}
 use Rattle.basis.specs.Views.{with_settings}

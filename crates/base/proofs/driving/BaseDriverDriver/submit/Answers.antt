@@ -1,4 +1,4 @@
-use Rattle.std.proofs.Common.{◌≡◌, sym, refl, ◌∙◌, arith}
+use Rattle.std.proofs.Common.{sym, refl, ◌∙◌, arith}
 use Rattle.model.specs.Requests.{Request}
 use Rattle.driver.specs.Replies.{request}
 use Rattle.queue.specs.Layout.{kept}

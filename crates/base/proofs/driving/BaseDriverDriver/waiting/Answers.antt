@@ -1,4 +1,4 @@
-use Rattle.std.proofs.Common.{◌≡◌, sym, ◌∙◌}
+use Rattle.std.proofs.Common.{sym, ◌∙◌}
 use lib.ListN.{length-map}
 use Rattle.queue.specs.Kept.{Kept}
 use Rattle.queue.specs.Layout.{kept}

@@ -1,5 +1,5 @@
 -- The three ways: the default, no room, and one more entry.
-use Rattle.std.proofs.Common.{◌≡◌, true, false, [], ◌∷◌, ◌++◌, length, is_ok, sym, refl, ap, ◌∙◌, arith}
+use Rattle.std.proofs.Common.{◌≡◌, true, [], ◌∷◌, ◌++◌, length, is_ok, sym, refl, ap, ◌∙◌, arith}
 use Rattle.std.proofs.lemmas.List.{length-take-le, length_push}
 use Rattle.std.proofs.lemmas.Bool.{cond-true, eq-eqb, ne_eqb, le-leb, lt-leb, lt-ltb, ltb-true, ltb-false, true≢false, false≢true, both_ways}
 use Rattle.compaction.specs.Compaction.{entry_of}

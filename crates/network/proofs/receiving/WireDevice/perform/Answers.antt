@@ -1,6 +1,5 @@
-use Rattle.std.proofs.Common.{◌≡◌, ℕ, ◌+◌, ◌≤◌, List, length, drop, Some, vec_items, Option, sym, ap, ◌∙◌, arith, rules}
+use Rattle.std.proofs.Common.{◌≡◌, ℕ, ◌+◌, List, drop, Some, vec_items, Option, sym, ap, ◌∙◌, rules}
 use Rattle.std.proofs.lemmas.List.{take_rest}
-use Rattle.model.specs.Requests.{Contents, Outcome}
 use Rattle.device.proofs.Outcomes.{answered}
 use Rattle.network.specs.declared.op.NetworkOp.{NetworkOp}
 use Rattle.network.specs.declared.op.NetworkOp.TheVariants.{Receive}

@@ -1,4 +1,4 @@
-use Rattle.std.proofs.Common.{◌≡◌, ℕ, ◌+◌, ◌*◌, List, refl, ap, ◌∙◌, arith, rules}
+use Rattle.std.proofs.Common.{ℕ, ◌+◌, ◌*◌, List, ap, ◌∙◌, arith, rules}
 use lib.Seq.{paste}
 use Rattle.store.specs.declared.store.Store.{Store}
 use Rattle.store.specs.Stores.{bytes_of}
