@@ -1,7 +1,7 @@
 -- A base driver's steps keep it well formed, and what follows from that.
 use Rattle.std.proofs.Common.{◌≡◌, ℕ, suc, ◌^◌, ◌<◌, ◌≤◌, Bool, true, false, cond, not, eqb, leb, List, [], ◌∷◌, length, Some, None, Option, sym, refl, ap, ◌∙◌, subst, inl, inr, arith}
 use mathlib.Core.Path.{fun_ext}
-use Rattle.std.specs.List.{AllByRecursion as All}
+use Rattle.std.specs.List.{AllByRecursion}
 use Rattle.std.proofs.lemmas.List.{append-nil, length_push}
 use Rattle.std.proofs.ByRecursion.{All-push, All-weaker}
 use Rattle.std.proofs.lemmas.List.Sums.{length-filter, count_by-le-length}
@@ -55,7 +55,7 @@ module _ (i : ℕ → ℕ) where
   length_default c e h = let a = others_length c e in simp (h, append-nil) (omega arith)
 
   -- a name that has the content already: no entry more
-  length_again : (c : List Entry) (e : Entry) (n : ℕ) → Apart k c → All (λ e. e.name < n) c → e.name < n → replay k c e.name ≡ e.content → length (update k c e) ≡ length c
+  length_again : (c : List Entry) (e : Entry) (n : ℕ) → Apart k c → AllByRecursion (λ e. e.name < n) c → e.name < n → replay k c e.name ≡ e.content → length (update k c e) ≡ length c
   length_again c e n p q l h =
       sym (tallied k (by_number_lawful i) (by_number_exact i) (update k c e) n (apart_update k (by_number_lawful i) c e p) (all_update (λ (x : Entry). x.name < n) k c e q l))
       ∙ (ap (λ f. tally i f n) (fun_ext same) ∙ tallied k (by_number_lawful i) (by_number_exact i) c n p q)
@@ -149,7 +149,7 @@ stay u b s c r t o (submits {q = q} h p e) =
     })
 stay u b s c r t o (idles h p w e) = subst (Ok u) (sym e) o
 stay u b s c r t o (does q qs h p w n a e) =
-    let f : All (Fine u s.reach) (q ∷ qs) = subst (All (Fine u s.reach)) w o.fine in
+    let f : AllByRecursion (Fine u s.reach) (q ∷ qs) = subst (AllByRecursion (Fine u s.reach)) w o.fine in
     subst (Ok u) (sym e) (record {
       settings = o.settings;
       keys = o.keys;
@@ -175,7 +175,7 @@ join_room u s n b o p = let l = few_joined u s n b o p in let m = b.few_joined i
 pub leave_room : (u : Rules) (s : View) (n : ℕ) → Bounds u → Ok u s → length (update membership_kind s.roll (entry_of n 0)) ≤ 24
 leave_room u s n b o = let l = length_default (λ _. 0) s.roll (entry_of n 0) refl in let k = o.few in let m = b.few_joined in omega arith
 
-within : (u : Rules) (n d : ℕ) (h : List Entry) → All (Within u) h → d ≤ greatest u n → content_after (setting_kind u) n d h ≤ greatest u n
+within : (u : Rules) (n d : ℕ) (h : List Entry) → AllByRecursion (Within u) h → d ≤ greatest u n → content_after (setting_kind u) n d h ≤ greatest u n
 within u n d [] p l = l
 within u n d (e ∷ h) p l =
     within u n (cond (eqb e.name n) e.content d) h p.1 (elim (cases_Bool (eqb e.name n)) [
@@ -191,7 +191,7 @@ value_fits u s k b o = within u k (initial u k) s.settings o.keys (b.initials k)
 pub front_allowed : (u : Rules) (s : View) (q : Request) (qs : List Request) (room : ℕ) → Bounds u → Ok u s → s.waiting ≡ q ∷ qs → first (tests u (meaning u s) (collect room)) ≡ None
     → allowed u s.reach (level (meaning u s)) q.kind q.address (length q.payload) room ≡ true
 front_allowed u s q qs room b o w p =
-    let f : All (Fine u s.reach) (q ∷ qs) = subst (All (Fine u s.reach)) w o.fine in
+    let f : AllByRecursion (Fine u s.reach) (q ∷ qs) = subst (AllByRecursion (Fine u s.reach)) w o.fine in
     and_from _ _ (le-leb _ _ (value_fits u s 0 b o)) (and_from _ _ f.0.kind (and_from _ _ (lt-ltb _ _ f.0.address) (and_from _ _ f.0.payload (le-leb _ _ (ltb-false _ _ (passed _ _ _ p).0)))))
 
 -- a driver as it is made

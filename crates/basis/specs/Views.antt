@@ -1,6 +1,6 @@
 -- What a base driver holds, as lists.
 use Rattle.std.specs.Prelude.{◌≡◌, ℕ, ◌^◌, ◌<◌, ◌≤◌, Bool, true, false, List, [], length}
-use Rattle.std.specs.List.{AllByRecursion as All}
+use Rattle.std.specs.List.{AllByRecursion}
 use Rattle.model.specs.Requests.{Request, Contents}
 use Rattle.model.specs.Rules.{Rules, greatest}
 use Rattle.compaction.specs.declared.entry.Entry.{Entry}
@@ -55,9 +55,9 @@ pub record Within (u : Rules) (e : Entry) : Type 0 where
 -- a base driver that is well formed
 pub record Ok (u : Rules) (v : View) : Type 0 where
   pub settings : Apart (setting_kind u) v.settings
-  pub keys : All (Within u) v.settings
+  pub keys : AllByRecursion (Within u) v.settings
   pub roll : Apart membership_kind v.roll
-  pub names : All (λ e. e.name < 2 ^ 32) v.roll
+  pub names : AllByRecursion (λ e. e.name < 2 ^ 32) v.roll
   pub few : length v.roll ≤ u.limit
-  pub fine : All (Fine u v.reach) v.waiting
+  pub fine : AllByRecursion (Fine u v.reach) v.waiting
   pub empty : v.up ≡ false → v ≡ cleared v false

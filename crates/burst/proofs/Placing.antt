@@ -2,7 +2,7 @@
 use Rattle.std.proofs.Common.{◌≡◌, ℕ, ◌+◌, ◌≤◌, List, [], ◌∷◌, length, take, Ok, Err, refl, ap, ◌∙◌, arith}
 use Rattle.std.proofs.lemmas.List.{length-take}
 use Rattle.std.proofs.lemmas.List.Sums.{sum_by-cons}
-use Rattle.std.specs.List.{AllByRecursion as All}
+use Rattle.std.specs.List.{AllByRecursion}
 use Rattle.model.specs.declared.refusal.Fault.{Fault}
 use Rattle.driver.specs.States.{State}
 use Rattle.store.specs.Records.{blocks_for}
@@ -27,7 +27,7 @@ nothing_left s next tally e =
       grows = omega arith;
     }
 
-still : (m t : State) (next next' : ℕ) (ps : List Placed) → next ≤ next' → Keeps next m t → All (Stands m next) ps → All (Stands t next') ps
+still : (m t : State) (next next' : ℕ) (ps : List Placed) → next ≤ next' → Keeps next m t → AllByRecursion (Stands m next) ps → AllByRecursion (Stands t next') ps
 still m t next next' [] n k h = tt
 still m t next next' (p ∷ ps) n k h =
     let b = h.0.before in

@@ -1,6 +1,6 @@
 -- What a whole burst leaves.
 use Rattle.std.specs.Prelude.{◌≡◌, ℕ, ◌+◌, ◌≤◌, List, length, sum_by}
-use Rattle.std.specs.List.{AllByRecursion as All}
+use Rattle.std.specs.List.{AllByRecursion}
 use Rattle.driver.specs.States.{State}
 use Rattle.store.specs.Records.{blocks_for}
 use Rattle.archive.specs.Stores.{Holds, Keeps}
@@ -24,6 +24,6 @@ pub record Left (s : State) (next : ℕ) (t : State) (next' : ℕ) (tally : Tall
   pub placed : List Placed
   pub stored : tally.stored ≡ capped (length placed)
   pub bytes : tally.bytes ≡ capped (sum_by (λ p. length p.frame) placed)
-  pub stand : All (Stands t next') placed
+  pub stand : AllByRecursion (Stands t next') placed
   pub keeps : Keeps next s t
   pub grows : next ≤ next'

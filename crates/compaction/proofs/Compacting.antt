@@ -1,6 +1,6 @@
 -- The compaction of one more entry is the update in place, and a compaction is its own.
 use Rattle.std.proofs.Common.{◌≡◌, ℕ, Bool, true, false, cond, not, ◌||◌, List, [], ◌∷◌, ◌++◌, fold, filter, sym, refl, ap, ◌∙◌, inl, inr}
-use Rattle.std.specs.List.{AllByRecursion as All}
+use Rattle.std.specs.List.{AllByRecursion}
 use Rattle.std.proofs.lemmas.List.{append_assoc, append-nil}
 use Rattle.std.proofs.lemmas.List.Elements.{filter-append}
 use Rattle.std.proofs.ByRecursion.{all_kept_by, All-push}
@@ -16,16 +16,16 @@ cond_not true l = refl
 cond_not false l = refl
 
 -- what holds of every entry holds of every entry that is kept
-all_latest : (P : Entry → Type 0) (k : Kind) (h : List Entry) → All P h → All P (latest k h)
+all_latest : (P : Entry → Type 0) (k : Kind) (h : List Entry) → AllByRecursion P h → AllByRecursion P (latest k h)
 all_latest P k [] p = p
 all_latest P k (e ∷ h) p =
     let i = all_latest P k h p.1 in
     elim (cases_Bool (named k e.name h)) [ inl a ↦ simp a i | inr a ↦ simp a (p.0, i) ]
 
-pub all_compact : (P : Entry → Type 0) (k : Kind) (h : List Entry) → All P h → All P (compact k h)
+pub all_compact : (P : Entry → Type 0) (k : Kind) (h : List Entry) → AllByRecursion P h → AllByRecursion P (compact k h)
 all_compact P k h p = all_kept_by (λ e. not (holds_default k e)) P (latest k h) (all_latest P k h p)
 
-pub all_update : (P : Entry → Type 0) (k : Kind) (h : List Entry) (e : Entry) → All P h → P e → All P (update k h e)
+pub all_update : (P : Entry → Type 0) (k : Kind) (h : List Entry) (e : Entry) → AllByRecursion P h → P e → AllByRecursion P (update k h e)
 all_update P k h e p q =
     let o = all_kept_by (λ x. not (k.same x.name e.name)) P h p in
     elim (cases_Bool (holds_default k e)) [

@@ -1,7 +1,7 @@
 -- As many names end with a content other than their default as the compaction has entries.
 use Rattle.std.proofs.Common.{◌≡◌, ℕ, zero, suc, ◌+◌, ◌<◌, ◌≤◌, Bool, true, false, cond, not, ◌||◌, eqb, List, [], ◌∷◌, length, sym, refl, ap, ◌∙◌, inl, inr, arith}
 use mathlib.Core.Path.{fun_ext}
-use Rattle.std.specs.List.{AllByRecursion as All}
+use Rattle.std.specs.List.{AllByRecursion}
 use Rattle.std.proofs.lemmas.Bool.{cases_Bool, cond-true, cond-false, eq-eqb, or_left, or_right, or_from, not_from_true, not_from_false, cases_eq}
 use Rattle.compaction.specs.declared.entry.Entry.{Entry}
 use Rattle.compaction.specs.Kinds.{Kind, Lawful, Exact}
@@ -143,7 +143,7 @@ module _ (k : Kind) (law : Lawful k) where
         ]
       ]
 
-  pub tallied_names : (c : List Entry) (n : ℕ) → Apart k c → All (λ e. e.name < n) c → tally_names k (replay k c) n ≡ length c
+  pub tallied_names : (c : List Entry) (n : ℕ) → Apart k c → AllByRecursion (λ e. e.name < n) c → tally_names k (replay k c) n ≡ length c
   tallied_names [] n a p = tally_names_none k n
   tallied_names (e ∷ c) n a p =
       let i = tallied_names c n a.2 p.1 in
@@ -152,20 +152,20 @@ module _ (k : Kind) (law : Lawful k) where
       let h = hits_is e.name n in
       omega arith
 
-  pub counts_names : (h : List Entry) (bound : ℕ) → All (λ e. e.name < bound) (compact k h) → tally_names k (replay k h) bound ≡ length (compact k h)
+  pub counts_names : (h : List Entry) (bound : ℕ) → AllByRecursion (λ e. e.name < bound) (compact k h) → tally_names k (replay k h) bound ≡ length (compact k h)
   counts_names h n p =
       ap (λ f. tally_names k f n) (fun_ext (λ m. sym (replays k law h m))) ∙ tallied_names (compact k h) n (apart_compact k h) p
 
   -- where no two numbers are the same name
-  pub tallied : Exact k → (c : List Entry) (n : ℕ) → Apart k c → All (λ e. e.name < n) c → tally k.default (replay k c) n ≡ length c
+  pub tallied : Exact k → (c : List Entry) (n : ℕ) → Apart k c → AllByRecursion (λ e. e.name < n) c → tally k.default (replay k c) n ≡ length c
   tallied ex c n a p = sym (tally_exact k ex (replay k c) n) ∙ tallied_names c n a p
 
-  pub counts : Exact k → (h : List Entry) (bound : ℕ) → All (λ e. e.name < bound) (compact k h) → tally k.default (replay k h) bound ≡ length (compact k h)
+  pub counts : Exact k → (h : List Entry) (bound : ℕ) → AllByRecursion (λ e. e.name < bound) (compact k h) → tally k.default (replay k h) bound ≡ length (compact k h)
   counts ex h n p = sym (tally_exact k ex (replay k h) n) ∙ counts_names h n p
 
   -- a list apart has no more entries than there are names below the bound
-  pub apart_few : Exact k → (c : List Entry) (n : ℕ) → Apart k c → All (λ e. e.name < n) c → length c ≤ n
+  pub apart_few : Exact k → (c : List Entry) (n : ℕ) → Apart k c → AllByRecursion (λ e. e.name < n) c → length c ≤ n
   apart_few ex c n a p = let t = tallied ex c n a p in let l = tally_le k.default (replay k c) n in omega arith
 
-  pub compact_few : Exact k → (h : List Entry) (bound : ℕ) → All (λ e. e.name < bound) (compact k h) → length (compact k h) ≤ bound
+  pub compact_few : Exact k → (h : List Entry) (bound : ℕ) → AllByRecursion (λ e. e.name < bound) (compact k h) → length (compact k h) ≤ bound
   compact_few ex h n p = apart_few ex (compact k h) n (apart_compact k h) p

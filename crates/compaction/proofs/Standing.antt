@@ -1,6 +1,6 @@
 -- In a compaction each name stands once, and no entry holds the default.
 use Rattle.std.proofs.Common.{◌≡◌, ℕ, zero, suc, ◌<◌, Bool, true, false, not, ◌||◌, List, [], ◌∷◌, ◌++◌, length, get_or, filter, refl, ap, ◌∙◌, inl, inr, arith}
-use Rattle.std.specs.List.{AllByRecursion as All}
+use Rattle.std.specs.List.{AllByRecursion}
 use Rattle.std.proofs.lemmas.List.{append-nil}
 use Rattle.std.proofs.lemmas.Bool.{cases_Bool, both_ways, eqb-false, or_left, or_right, or_parts, or_from}
 use Rattle.compaction.specs.declared.entry.Entry.{Entry}
@@ -69,11 +69,11 @@ compact_apart k (e ∷ c) a =
     let o = or_from (named k e.name c) (holds_default k e) a.0 a.1 in
     compact_cons k e c ∙ (simp o (ap (λ l. e ∷ l) (compact_apart k c a.2)))
 
-pub apart_no_default : (k : Kind) (c : List Entry) → Apart k c → All (λ e. e.content ≡ k.default e.name → ⊥) c
+pub apart_no_default : (k : Kind) (c : List Entry) → Apart k c → AllByRecursion (λ e. e.content ≡ k.default e.name → ⊥) c
 apart_no_default k [] a = tt
 apart_no_default k (e ∷ c) a = (eqb-false _ _ a.1, apart_no_default k c a.2)
 
-pub no_default : (k : Kind) → Lawful k → (h : List Entry) → All (λ e. e.content ≡ k.default e.name → ⊥) (compact k h)
+pub no_default : (k : Kind) → Lawful k → (h : List Entry) → AllByRecursion (λ e. e.content ≡ k.default e.name → ⊥) (compact k h)
 no_default k law h = apart_no_default k (compact k h) (apart_compact k h)
 
 module _ (k : Kind) (law : Lawful k) where

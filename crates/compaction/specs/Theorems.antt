@@ -1,6 +1,6 @@
 -- What holds of the compaction of every list of entries, of every lawful kind.
 use Rattle.std.specs.Prelude.{◌≡◌, ℕ, ◌<◌, true, List, [], ◌∷◌, ◌++◌, length, ◌≢◌, slice_index_or}
-use Rattle.std.specs.List.{AllByRecursion as All}
+use Rattle.std.specs.List.{AllByRecursion}
 use Rattle.compaction.specs.declared.entry.Entry.{Entry}
 use Rattle.compaction.specs.Kinds.{Kind, Lawful, Exact}
 use Rattle.compaction.specs.Compaction.{compact, update}
@@ -28,17 +28,17 @@ StandsOnce = (k : Kind) → Lawful k → (h : List Entry) (i j : ℕ) (d : Entry
 
 -- in a compaction no entry holds the default
 abbrev pub NoDefault : Type 0
-NoDefault = (k : Kind) → Lawful k → (h : List Entry) → All (λ e. e.content ≢ k.default e.name) (compact k h)
+NoDefault = (k : Kind) → Lawful k → (h : List Entry) → AllByRecursion (λ e. e.content ≢ k.default e.name) (compact k h)
 
 -- where a compaction's names are below a bound, as many names below it
 -- end with a content other than their default as the compaction has entries
 abbrev pub CountsNames : Type 0
 CountsNames = (k : Kind) → Lawful k → (h : List Entry) (bound : ℕ)
-    → All (λ e. e.name < bound) (compact k h)
+    → AllByRecursion (λ e. e.name < bound) (compact k h)
     → tally_names k (replay k h) bound ≡ length (compact k h)
 
 -- the same in a kind in which no two numbers are the same name: there every number counts
 abbrev pub Counts : Type 0
 Counts = (k : Kind) → Lawful k → Exact k → (h : List Entry) (bound : ℕ)
-    → All (λ e. e.name < bound) (compact k h)
+    → AllByRecursion (λ e. e.name < bound) (compact k h)
     → tally k.default (replay k h) bound ≡ length (compact k h)

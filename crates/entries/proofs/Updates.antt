@@ -1,6 +1,6 @@
 -- What noting an entry does to the items of a log, and how a log is made.
 use Rattle.std.proofs.Common.{◌≡◌, ℕ, suc, ◌+◌, ◌-◌, ◌<◌, ◌≤◌, Bool, true, false, cond, not, ◌||◌, ltb, List, [], ◌∷◌, ◌++◌, map, length, get_or, take, drop, is_some, is_ok, is_err, IfOk, Ok, Err, Result, sym, refl, ap, ◌∙◌, inl, inr, arith}
-use Rattle.std.specs.List.{AllByRecursion as All}
+use Rattle.std.specs.List.{AllByRecursion}
 use Rattle.std.proofs.lemmas.List.{append-nil, append_assoc, map-append, at_drop_more, take_rest, length-append, length-map, length_push}
 use Rattle.std.proofs.lemmas.List.Sums.{length-filter, count_by-le-length}
 use Rattle.std.proofs.lemmas.Bool.{cases_Bool, cond-true, cond-false, lt-ltb, le-ltb, ltb-true, ltb-false, false≢true}
@@ -68,7 +68,7 @@ length_noted_le k e is =
 
 -- where names are numbers below a bound, there are never more entries than that
 pub noted_few : (k : Kind) → Lawful k → Exact k → (e : Entry) (is : List Item) (bound : ℕ)
-    → Apart k (entries_of is) → All (λ x. x.name < bound) (entries_of is) → e.name < bound
+    → Apart k (entries_of is) → AllByRecursion (λ x. x.name < bound) (entries_of is) → e.name < bound
     → length (noted k e is) ≤ bound
 noted_few k law ex e is b a p q =
     let f = apart_few k law ex (update k (entries_of is) e) b (apart_update k law (entries_of is) e a) (all_update (λ x. x.name < b) k (entries_of is) e p q) in

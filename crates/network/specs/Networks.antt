@@ -5,7 +5,7 @@ use Rattle.model.specs.Rules.{Rules, between}
 use Rattle.model.specs.declared.setting.SettingRange.{SettingRange}
 use Rattle.network.specs.declared.op.NetworkOp.{NetworkOp}
 use Rattle.network.specs.declared.op.NetworkOp.TheVariants.{Send, Receive, Counters}
-use Rattle.frames.specs.Frames.{Found, next_frame}
+use Rattle.arrivals.specs.Frames.{Found, next_frame}
 
 -- the number of each kind of request
 abbrev pub kind_of : NetworkOp → ℕ

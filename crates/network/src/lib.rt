@@ -7,7 +7,7 @@ mod receiving;
 mod sending;
 mod wire;
 
+pub use arrivals::{Survey, count_frames, next_frame};
 pub use class::Network;
-pub use frames::{Survey, count_frames, next_frame};
 pub use op::NetworkOp;
 pub use wire::Wire;

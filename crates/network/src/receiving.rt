@@ -7,8 +7,8 @@ use crate::class::Network;
 use crate::op::NetworkOp;
 use crate::sending::add_bytes;
 use crate::wire::Wire;
+use arrivals::next_frame;
 use device::{Device, allows, put_answer, put_counters};
-use frames::next_frame;
 
 impl Wire {
     // A wire with these bytes still to arrive.

@@ -3,7 +3,7 @@ use Rattle.std.proofs.lemmas.List.{take_rest}
 use Rattle.device.proofs.Outcomes.{answered}
 use Rattle.network.specs.declared.op.NetworkOp.{NetworkOp}
 use Rattle.network.specs.declared.op.NetworkOp.TheVariants.{Receive}
-use Rattle.frames.specs.Frames.{next_frame}
+use Rattle.arrivals.specs.Frames.{next_frame}
 use Rattle.network.specs.Networks.{network_rules, network_of, act, op_of}
 use Rattle.network.specs.Wires.{wire_contents}
 use Rattle.network.proofs.receiving.WireDevice.perform.Goals as goal

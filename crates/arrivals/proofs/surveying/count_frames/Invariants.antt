@@ -1,6 +1,6 @@
 use Rattle.std.proofs.Common.{length}
-use Rattle.frames.proofs.Counting.{SoFar}
-use Rattle.frames.proofs.surveying.count_frames.Given as goal
+use Rattle.arrivals.proofs.Counting.{SoFar}
+use Rattle.arrivals.proofs.surveying.count_frames.Given as goal
 
 abbrev pub invariant-loop-left : goal.invariant-loop-left
 invariant-loop-left l = SoFar l.bytes l.left l.seen

@@ -1,6 +1,6 @@
 // The next frame of the arrivals.
 ghost use Rattle.std.specs.Prelude.{◌≡◌, ◌≤◌, length};
-ghost use Rattle.frames.specs.Frames.{next_frame};
+ghost use Rattle.arrivals.specs.Frames.{next_frame};
 
 pub(crate) const SHORTEST: usize = 14;
 

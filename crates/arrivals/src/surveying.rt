@@ -1,6 +1,6 @@
 // Counting what arrived.
 ghost use Rattle.std.specs.Prelude.{◌≡◌};
-ghost use Rattle.frames.specs.Surveys.{survey_of};
+ghost use Rattle.arrivals.specs.Surveys.{survey_of};
 
 use crate::seeking::{LONGEST, SHORTEST};
 use crate::survey::Survey;

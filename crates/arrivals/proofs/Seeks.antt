@@ -2,8 +2,8 @@
 use Rattle.std.proofs.Common.{◌≡◌, ℕ, zero, suc, ◌+◌, ◌*◌, ◌%◌, ◌<◌, ◌≤◌, true, false, ◌⊎◌, List, [], ◌∷◌, length, get_or, take, drop, sym, refl, ap, ◌∙◌, ⊎_elim, arith}
 use Rattle.std.proofs.lemmas.Bool.{cond-true, cond-false}
 use Rattle.std.proofs.lemmas.Bool.Decides.{nat_tests}
-use Rattle.frames.specs.Frames.{Found, ended, seek, usable, passes}
-use Rattle.frames.specs.Surveys.{survey_from, survey_of, counted}
+use Rattle.arrivals.specs.Frames.{Found, ended, seek, usable, passes}
+use Rattle.arrivals.specs.Surveys.{survey_from, survey_of, counted}
 
 pub seek_from : (l k : ℕ) (xs : List ℕ) → seek l k xs ≡ seek l 0 (drop k xs)
 seek_from l zero xs = refl

@@ -1,9 +1,9 @@
 -- A count of frames that has come so far through the arrivals.
 use Rattle.std.proofs.Common.{◌≡◌, ℕ, ◌+◌, ◌*◌, ◌≤◌, Bool, true, false, cond, List, length, get_or, drop, sym, refl, ap, ◌∙◌, add-zero, arith, length-drop}
-use Rattle.frames.specs.Frames.{passes}
-use Rattle.frames.specs.Surveys.{survey_of, counted}
-use Rattle.frames.specs.declared.survey.Survey.{Survey}
-use Rattle.frames.proofs.Seeks.{surveyed}
+use Rattle.arrivals.specs.Frames.{passes}
+use Rattle.arrivals.specs.Surveys.{survey_of, counted}
+use Rattle.arrivals.specs.declared.survey.Survey.{Survey}
+use Rattle.arrivals.proofs.Seeks.{surveyed}
 
 pub record SoFar (bytes left : List ℕ) (s : Survey) : Type 0 where
   pub frames : (survey_of bytes).frames ≡ s.frames + (survey_of left).frames

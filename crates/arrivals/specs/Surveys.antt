@@ -1,7 +1,7 @@
 -- The frames of a run of arrivals, counted up to where the arrivals end.
 use Rattle.std.specs.Prelude.{ℕ, zero, suc, ◌+◌, ◌*◌, Bool, cond, List, [], ◌∷◌, length}
-use Rattle.frames.specs.Frames.{usable, passes}
-use Rattle.frames.specs.declared.survey.Survey.{Survey}
+use Rattle.arrivals.specs.Frames.{usable, passes}
+use Rattle.arrivals.specs.declared.survey.Survey.{Survey}
 
 abbrev pub nothing : Survey
 nothing = record { frames = 0; groups = 0; used = 0 }

@@ -1,10 +1,10 @@
 use Rattle.std.proofs.Common.{◌+◌, ◌-◌, ◌*◌, true, false, length, take, drop, sym, ap, arith}
 use Rattle.std.proofs.lemmas.List.{take_rest}
 use Rattle.std.proofs.lemmas.Bool.{eq-eqb, ne_eqb}
-use Rattle.frames.specs.declared.survey.Survey.{Survey}
-use Rattle.frames.proofs.Counting.{turn}
-use Rattle.frames.proofs.surveying.count_frames.Goals as goal
-use Rattle.frames.proofs.surveying.count_frames.Goals.{then-rest-eq1, else-rest-eq1}
+use Rattle.arrivals.specs.declared.survey.Survey.{Survey}
+use Rattle.arrivals.proofs.Counting.{turn}
+use Rattle.arrivals.proofs.surveying.count_frames.Goals as goal
+use Rattle.arrivals.proofs.surveying.count_frames.Goals.{then-rest-eq1, else-rest-eq1}
 
 pub loop-left-preserved : goal.loop-left-preserved
 loop-left-preserved c =
