@@ -2,7 +2,7 @@
 ghost use Rattle.std.specs.Prelude.{◌≡◌};
 ghost use Rattle.arrivals.specs.Surveys.{survey_of};
 
-use crate::seeking::{LONGEST, SHORTEST};
+use crate::frames::{LONGEST, SHORTEST};
 use crate::survey::Survey;
 
 // Counts the frames of a run of arrivals, up to where the arrivals end.

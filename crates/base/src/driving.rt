@@ -11,7 +11,7 @@ ghost use Rattle.basis.specs.Steps.{Step};
 ghost use Rattle.base.specs.Held.{view};
 ghost use Rattle.basis.proofs.Keeps.{law, empties};
 ghost use Rattle.basis.proofs.Stays.{stay};
-ghost use Rattle.base.specs.BaseDrivingLemmas.{paired};
+ghost use Rattle.base.specs.Pairs.{paired};
 
 use crate::parts::BaseDriver;
 use device::Device;

@@ -19,7 +19,7 @@ holds_default k e = e.content == k.default e.name
 
 -- the compaction: first each entry goes that has a later one of its name,
 -- then each that holds the default, and the others keep their order
--- (`kept_by` keeps those that pass its test)
+-- (`filter` keeps those that pass its test)
 abbrev pub compact : Kind → List Entry → List Entry
 compact k h = filter (λ e. not (holds_default k e)) (latest k h)
 

@@ -3,7 +3,7 @@ ghost use Rattle.std.specs.Prelude.{◌≡◌, true, false, List, [], ◌∷◌,
 ghost use Rattle.compaction.specs.Compaction.{compact, entry_of};
 ghost use Rattle.entry_log.specs.Items.{items_in, Records, fresh, other_items, noted};
 
-use crate::full::Full;
+use crate::item::Full;
 use crate::log::{CAPACITY, Log};
 use compaction::Entry;
 use entries::{Item, drop_same, stays};

@@ -11,13 +11,6 @@ use entries::{Item, find, last_content};
 use kinds::EntryKind;
 
 impl<K> Log<K> {
-    // The entries, the oldest first.
-    pub(crate) fn as_slice(&self) -> &[Item]
-        ensures { result.now ≡ items_in self.now }
-    {
-        &self.items[0..self.count]
-    }
-
     // How many entries there are.
     pub fn len(&self) -> usize
         ensures { result ≡ length (items_in self.now) }

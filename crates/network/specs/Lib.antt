@@ -1,3 +1,5 @@
 pub mod Networks
 pub mod Wires
 pub mod Laws
+pub mod Frames
+pub mod Surveys

@@ -1,7 +1,7 @@
 -- How a queue's memory says what it keeps.
 use Rattle.std.specs.Prelude.{List, take, drop}
 use Rattle.heads.specs.Kept.{Kept}
-use Rattle.heads.specs.Laid.{laid}
+pub use Rattle.heads.specs.Laid.{laid}
 use Rattle.queue.specs.declared.queue.Queue.{Queue}
 
 -- what a queue keeps, the oldest first

@@ -4,9 +4,10 @@
 mod bytes;
 mod emptying;
 mod filling;
+pub mod head;
 mod marking;
 mod queue;
 mod reading;
 
-pub use heads::Head;
+pub use head::Head;
 pub use queue::{CAPACITY, MOST, Queue};

@@ -1,8 +1,8 @@
 use Rattle.std.proofs.Common.{◌+◌, ◌-◌, ◌*◌, length, take, drop, sym, ap, ◌∙◌, arith}
 use Rattle.std.proofs.lemmas.List.{take_rest, length-take, length-drop}
 use Rattle.arrivals.proofs.Seeks.{passed, answered, stopped}
-use Rattle.arrivals.proofs.seeking.+next_frame.Goals as goal
-use Rattle.arrivals.proofs.seeking.+next_frame.Goals.{else-level-eq0-via-then-level-eq0+else-rest-eq1, else-level-eq0-via-else-level-eq0}
+use Rattle.arrivals.proofs.frames.+next_frame.Goals as goal
+use Rattle.arrivals.proofs.frames.+next_frame.Goals.{else-level-eq0-via-then-level-eq0+else-rest-eq1, else-level-eq0-via-else-level-eq0}
 
 pub returns-then-rest-eq1 : goal.returns-then-rest-eq1
 returns-then-rest-eq1 t c =

@@ -1,3 +1,4 @@
+-- The pair of a base driver that failed.
 use Rattle.std.specs.Prelude.{◌≡◌, ℕ, refl}
 use Rattle.model.specs.Rules.{Rules}
 use Rattle.driver.specs.Calls.{Call, failed}

@@ -1,0 +1,2 @@
+-- What heads come to, as `heads` has it.
+pub use Rattle.heads.specs.Heads.{total, remark}
