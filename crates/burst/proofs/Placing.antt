@@ -1,8 +1,7 @@
 -- One frame more of a burst.
-use Rattle.std.proofs.Common.{◌≡◌, ℕ, ◌+◌, ◌≤◌, List, [], ◌∷◌, length, take, Ok, Err, refl, ap, ◌∙◌, arith}
+use Rattle.std.proofs.Common.{◌≡◌, ℕ, ◌+◌, ◌≤◌, List, [], ◌∷◌, length, take, Ok, Err, refl, sym, ap, ◌∙◌, subst, arith}
 use Rattle.std.proofs.lemmas.List.{length-take}
 use Rattle.std.proofs.lemmas.List.Sums.{sum_by-cons}
-use Rattle.std.specs.List.{AllByRecursion}
 use Rattle.model.specs.declared.refusal.Fault.{Fault}
 use Rattle.driver.specs.States.{State}
 use Rattle.store.specs.Records.{blocks_for}
@@ -13,7 +12,7 @@ use Rattle.intake.specs.declared.event.Event.TheVariants.{Ended, Silent, NotStor
 use Rattle.intake.specs.Intakes.{Shelved, Arrived}
 use Rattle.burst.specs.declared.tally.Tally.{Tally}
 use Rattle.burst.specs.Counts.{none_yet, added, counted}
-use Rattle.burst.specs.Bursts.{Placed, Stands, Left}
+use Rattle.burst.specs.Bursts.{Placed, Rows, Left}
 
 -- before the first frame
 pub nothing_left : (s : State) (next : ℕ) (tally : Tally) → tally ≡ none_yet → Left s next s next tally
@@ -22,16 +21,16 @@ nothing_left s next tally e =
       placed = [];
       stored = ap (λ (x : Tally). x.stored) e;
       bytes = ap (λ (x : Tally). x.bytes) e;
-      stand = tt;
+      stand = refl;
       keeps = λ first frame b h. h;
       grows = omega arith;
     }
 
-still : (m t : State) (next next' : ℕ) (ps : List Placed) → next ≤ next' → Keeps next m t → AllByRecursion (Stands m next) ps → AllByRecursion (Stands t next') ps
-still m t next next' [] n k h = tt
-still m t next next' (p ∷ ps) n k h =
-    let b = h.0.before in
-    (record { held = k p.first p.frame h.0.before h.0.held; before = omega arith }, still m t next next' ps n k h.1)
+still : (m t : State) (start end mid : ℕ) (ps : List Placed) → end ≤ mid → Keeps mid m t → Rows m start end ps → Rows t start end ps
+still m t start end mid [] n k h = h
+still m t start end mid (p ∷ ps) n k h =
+    let e = h.1 in
+    (k p.first p.frame (omega arith) h.0, e, still m t start p.first mid ps (omega arith) k h.2)
 
 module _ (s m t : State) (next mid next' : ℕ) (tally : Tally) (w : Left s next m mid tally) (k : Keeps mid m t) where
   -- nothing is lost over two steps
@@ -48,7 +47,7 @@ module _ (s m t : State) (next mid next' : ℕ) (tally : Tally) (w : Left s next
         placed = w.placed;
         stored = a ∙ w.stored;
         bytes = b ∙ w.bytes;
-        stand = still m t mid next' w.placed (omega arith) k w.stand;
+        stand = subst (λ (n : ℕ). Rows t next n w.placed) (sym e) (still m t next mid mid w.placed (omega arith) k w.stand);
         keeps = both;
         grows = omega arith;
       }
@@ -65,7 +64,7 @@ module _ (s m t : State) (next mid next' : ℕ) (tally : Tally) (w : Left s next
         placed = p ∷ w.placed;
         stored = omega arith;
         bytes = omega arith;
-        stand = (record { held = h; before = omega arith }, still m t mid next' w.placed (omega arith) k w.stand);
+        stand = (h, e, still m t next mid mid w.placed (omega arith) k w.stand);
         keeps = both;
         grows = omega arith;
       }
