@@ -2,112 +2,82 @@
 use Rattle.std.proofs.Common.{◌≡◌, ℕ, ◌<◌, ◌≤◌, Bool, false, List, [], length, take, Ok, Err, Decides, Result, sym, refl, ap, ◌∙◌, subst, inl, inr, arith}
 use Rattle.std.proofs.lemmas.List.{take_all, length-take}
 use Rattle.std.proofs.lemmas.Bool.{false≢true, true≢false, eq-eqb}
-use Rattle.model.specs.Requests.{Request, Contents}
+use Rattle.model.specs.Requests.{Contents}
 use Rattle.model.specs.declared.refusal.Fault.{Fault}
-use Rattle.model.specs.declared.refusal.Refusal.{Refusal}
 use Rattle.model.specs.declared.refusal.Refusal.TheVariants.{Failed}
+use Rattle.block.specs.declared.op.BlockOp.TheVariants.{Read, Write}
 use Rattle.block.specs.Blocks.{block_rules, block_at, with_block}
+use Rattle.driver.specs.Calls.{Call, Reply}
 use Rattle.driver.specs.States.{State}
-use Rattle.driver.specs.Replies.{got}
+use Rattle.driver.specs.Replies.{request}
 use Rattle.driver.specs.Rules.{Perhaps}
-use Rattle.driver.specs.declared.answers.Collected.{Collected}
-use Rattle.exchange.specs.Exchanges.{Answered}
-use Rattle.exchange.proofs.Coming.{Came, came, came_done, came_lost, came_open, came_failed, taken_first, long_enough}
+use Rattle.model.specs.declared.header.Header.{Header}
+use Rattle.exchange.specs.declared.silence.Silence.{Silence}
+use Rattle.exchange.specs.Hearing.{Heard}
+use Rattle.exchange.proofs.Coming.{Came, came_done, came_lost, came_open, came_failed, heard_came}
 use Rattle.archive.specs.declared.archive.StoreError.{StoreError}
 use Rattle.archive.specs.declared.archive.StoreError.TheVariants.{Refused}
-use Rattle.archive.specs.Disks.{disk, with_disk, told, Stuck, stuck_failed, stuck_open, Wrote, wrote, not_wrote, Compared, compared, not_compared}
+use Rattle.archive.specs.Disks.{disk, with_disk, header_of, Stuck, stuck_failed, stuck_open, Wrote, wrote, not_wrote, Compared, compared, not_compared}
+use Rattle.archive.specs.Errors.{from_silence}
 
-abbrev asks : ℕ → ℕ → ℕ → List ℕ → Request
-asks tag kind a payload = record { tag = tag; kind = kind; address = a; payload = payload }
+-- a request for a block whose answer was heard, by the state of the driver
+module _ {D : Type 0} {state : D → State} {fault : D → Fault} {steps : D → Call → Reply → D → Type 0} {d e : D} {h : Header} {a : ℕ} {buffer buffer' : List ℕ} {r : Result ℕ Silence}
+    (free : (state d).waiting ≡ []) (near : a < (state d).reach) (wide : 512 ≤ length buffer) where
+  pub write_heard : {block : List ℕ} → h ≡ header_of Write a → length block ≡ 512 → Heard block_rules state fault steps d (request h block) buffer buffer' r e
+      → Came block_rules (state d) (request (header_of Write a) block) (fault e) buffer' r (state e)
+  write_heard {block} op size w =
+      heard_came (subst (λ (x : Header). Heard block_rules state fault steps d (request x block) buffer buffer' r e) op w) free refl near (eq-eqb (length block) 512 size) (omega arith) wide
 
-other : {A : Type 0} {x : A} {e : StoreError} → ◌≡◌ {A = Result A StoreError} (Ok x) (Err e) → ⊥
-other h = let z : ◌≡◌ {A = ℕ} 0 1 = cc in omega arith
+  pub read_heard : h ≡ header_of Read a → Heard block_rules state fault steps d (request h []) buffer buffer' r e
+      → Came block_rules (state d) (request (header_of Read a) []) (fault e) buffer' r (state e)
+  read_heard op w = heard_came (subst (λ (x : Header). Heard block_rules state fault steps d (request x []) buffer buffer' r e) op w) free refl near refl (omega arith) wide
 
-same : {A : Type 0} {x e : StoreError} → ◌≡◌ {A = Result A StoreError} (Err x) (Err e) → x ≡ e
-same h = cc
+-- the bytes that are on the disk after a write that was perhaps made
+perhaps : {s t : State} {f : Fault} {a : ℕ} {block : List ℕ} {x : StoreError} (y : Contents) → t.reach ≡ s.reach → t.contents ≡ y → Stuck f t x → Perhaps block_rules s (request (header_of Write a) block) y
+    → Wrote s a block f (Err x) t
+perhaps {s} y d c z (inl p) = not_wrote (disk s) (inl refl) d (c ∙ p) z
+perhaps {s} {a} {block} y d c z (inr p) = not_wrote (with_block a block (disk s)) (inr refl) d (c ∙ p) z
 
-module _ (s : State) (tag kind a : ℕ) (block : List ℕ) (f : Fault) (t : State) (buffer : List ℕ) (room : ℕ) (r : Result Collected Refusal)
-    (free : s.waiting ≡ []) (near : a < s.reach) (wide : 512 ≤ room) where
-  -- a write
-  write_came : kind ≡ 2 → length block ≡ 512 → Answered block_rules s (asks tag kind a block) room f (got buffer r) t → Came block_rules s (asks tag 2 a block) f buffer r t
-  write_came k l h =
-      came block_rules s (asks tag 2 a block) room f buffer t
-      (taken_first block_rules s (asks tag 2 a block) free refl near (eq-eqb (length block) 512 l) (omega arith)) (long_enough block_rules s room wide) r
-      (subst (λ (i : ℕ). Answered block_rules s (asks tag i a block) room f (got buffer r) t) k h)
+-- what a read that was answered says: nothing changed, and the first n bytes of the buffer are the block
+record Got (s t : State) (a : ℕ) (buffer : List ℕ) (n : ℕ) : Type 0 where
+  pub after : t ≡ with_disk s (disk s)
+  pub bytes : take n buffer ≡ block_at a (disk s)
 
-  wrote_by : {n : ℕ} (o : Result Collected Refusal) → told o ≡ Ok n → Came block_rules s (asks tag 2 a block) f buffer o t → Wrote s a block f (Ok tt) t
-  wrote_by o h (came_done up m b e) = wrote e
-  wrote_by o h (came_lost x up d p e) = absurd (true≢false d)
-  wrote_by o h (came_open x up p e) = absurd (other (sym h))
-  wrote_by o h (came_failed x g up d c p) = absurd (other (sym h))
+unread : (s : State) (a : ℕ) (y : Contents) → Perhaps block_rules s (request (header_of Read a) []) y → y ≡ s.contents
+unread s a y (inl p) = p
+unread s a y (inr p) = p
 
-  -- the bytes that are on the disk after a write that was perhaps made
-  perhaps : {e : StoreError} (x : Contents) → t.reach ≡ s.reach → t.contents ≡ x → Stuck f t e → Perhaps block_rules s (asks tag 2 a block) x → Wrote s a block f (Err e) t
-  perhaps x d c z (inl p) = not_wrote (disk s) (inl refl) d (c ∙ p) z
-  perhaps x d c z (inr p) = not_wrote (with_block a block (disk s)) (inr refl) d (c ∙ p) z
+module _ {s t : State} {f : Fault} {a : ℕ} {buffer : List ℕ} where
+  module _ {block : List ℕ} where
+    pub wrote_ok : {n : ℕ} → Came block_rules s (request (header_of Write a) block) f buffer (Ok n) t → Wrote s a block f (Ok tt) t
+    wrote_ok (came_done up b e) = wrote e
 
-  not_wrote_by : {e : StoreError} (o : Result Collected Refusal) → told o ≡ Err e → Came block_rules s (asks tag 2 a block) f buffer o t → Wrote s a block f (Err e) t
-  not_wrote_by o h (came_done up m b e) = absurd (other h)
-  not_wrote_by o h (came_lost x up d p e) = absurd (true≢false d)
-  not_wrote_by o h (came_open x up p e) =
-      perhaps x (ap (λ (y : State). y.reach) e) (ap (λ (y : State). y.contents) e) (subst (Stuck f t) (same h) (stuck_open (asks tag 2 a block) (ap (λ (y : State). y.waiting) e))) p
-  not_wrote_by o h (came_failed x g up d c p) =
-      perhaps x d c (subst (Stuck f t) (ap (λ (y : Fault). Refused (Failed y)) (sym g) ∙ same h) (stuck_failed up)) p
+    pub wrote_err : {x : Silence} → Came block_rules s (request (header_of Write a) block) f buffer (Err x) t → Wrote s a block f (Err (from_silence x)) t
+    wrote_err (came_lost y up d p e) = absurd (true≢false d)
+    wrote_err (came_open y up p e) = perhaps y (ap (λ (z : State). z.reach) e) (ap (λ (z : State). z.contents) e) (stuck_open (request (header_of Write a) block) (ap (λ (z : State). z.waiting) e)) p
+    wrote_err (came_failed y g up d c p) = perhaps y d c (subst (λ (z : Fault). Stuck f t (Refused (Failed z))) (sym g) (stuck_failed up)) p
 
-  pub wrote_ok : {n : ℕ} → kind ≡ 2 → length block ≡ 512 → told r ≡ Ok n → Answered block_rules s (asks tag kind a block) room f (got buffer r) t → Wrote s a block f (Ok tt) t
-  wrote_ok k l h p = wrote_by r h (write_came k l p)
+  got : {n : ℕ} → Came block_rules s (request (header_of Read a) []) f buffer (Ok n) t → Got s t a buffer n
+  got (came_done up b e) = record { after = e; bytes = b }
 
-  pub wrote_err : {e : StoreError} → kind ≡ 2 → length block ≡ 512 → told r ≡ Err e → Answered block_rules s (asks tag kind a block) room f (got buffer r) t → Wrote s a block f (Err e) t
-  wrote_err k l h p = not_wrote_by r h (write_came k l p)
-
-  -- a read
-  read_came : kind ≡ 1 → block ≡ [] → Answered block_rules s (asks tag kind a block) room f (got buffer r) t → Came block_rules s (asks tag 1 a []) f buffer r t
-  read_came k l h =
-      came block_rules s (asks tag 1 a []) room f buffer t
-      (taken_first block_rules s (asks tag 1 a []) free refl near refl (omega arith)) (long_enough block_rules s room wide) r
-      (subst (λ (xs : List ℕ). Answered block_rules s (asks tag 1 a xs) room f (got buffer r) t) l (subst (λ (i : ℕ). Answered block_rules s (asks tag i a block) room f (got buffer r) t) k h))
-
-  -- what a read that was answered says: nothing changed, and the first n bytes of the buffer are the block
-  pub record Got (n : ℕ) : Type 0 where
-    pub after : t ≡ with_disk s (disk s)
-    pub bytes : take n buffer ≡ block_at a (disk s)
-
-  got_by : {n : ℕ} (o : Result Collected Refusal) → told o ≡ Ok n → Came block_rules s (asks tag 1 a []) f buffer o t → Got n
-  got_by o h (came_done up m b e) = record { after = e; bytes = ap (λ (i : ℕ). take i buffer) (sym (size h)) ∙ b }
-    where
-      size : {m n : ℕ} → ◌≡◌ {A = Result ℕ StoreError} (Ok m) (Ok n) → m ≡ n
-      size h = cc
-  got_by o h (came_lost x up d p e) = absurd (true≢false d)
-  got_by o h (came_open x up p e) = absurd (other (sym h))
-  got_by o h (came_failed x g up d c p) = absurd (other (sym h))
-
-  pub read_ok : {n : ℕ} → kind ≡ 1 → block ≡ [] → told r ≡ Ok n → Answered block_rules s (asks tag kind a block) room f (got buffer r) t → Got n
-  read_ok k l h p = got_by r h (read_came k l p)
-
-  unread : (x : Contents) → Perhaps block_rules s (asks tag 1 a []) x → x ≡ s.contents
-  unread x (inl p) = p
-  unread x (inr p) = p
-
-  not_read_by : {e : StoreError} (bytes : List ℕ) (o : Result Collected Refusal) → told o ≡ Err e → Came block_rules s (asks tag 1 a []) f buffer o t → Compared s a bytes f (Err e) t
-  not_read_by bytes o h (came_done up m b e) = absurd (other h)
-  not_read_by bytes o h (came_lost x up d p e) = absurd (true≢false d)
-  not_read_by bytes o h (came_open x up p e) =
-      not_compared (ap (λ (y : State). y.reach) e) (ap (λ (y : State). y.contents) e ∙ unread x p) (subst (Stuck f t) (same h) (stuck_open (asks tag 1 a []) (ap (λ (y : State). y.waiting) e)))
-  not_read_by bytes o h (came_failed x g up d c p) =
-      not_compared d (c ∙ unread x p) (subst (Stuck f t) (ap (λ (y : Fault). Refused (Failed y)) (sym g) ∙ same h) (stuck_failed up))
-
-  pub read_err : {e : StoreError} (bytes : List ℕ) → kind ≡ 1 → block ≡ [] → told r ≡ Err e → Answered block_rules s (asks tag kind a block) room f (got buffer r) t → Compared s a bytes f (Err e) t
-  read_err bytes k l h p = not_read_by bytes r h (read_came k l p)
+  pub read_err : {x : Silence} (bytes : List ℕ) → Came block_rules s (request (header_of Read a) []) f buffer (Err x) t → Compared s a bytes f (Err (from_silence x)) t
+  read_err bytes (came_lost y up d p e) = absurd (true≢false d)
+  read_err bytes (came_open y up p e) =
+      not_compared (ap (λ (z : State). z.reach) e) (ap (λ (z : State). z.contents) e ∙ unread s a y p) (stuck_open (request (header_of Read a) []) (ap (λ (z : State). z.waiting) e))
+  read_err bytes (came_failed y g up d c p) = not_compared d (c ∙ unread s a y p) (subst (λ (z : Fault). Stuck f t (Refused (Failed z))) (sym g) (stuck_failed up))
 
   -- a buffer of one block is compared
-  pub compared_by : {n : ℕ} {b : Bool} (bytes : List ℕ) → length buffer ≡ 512 → 512 ≤ n → Decides b (buffer ≡ bytes) → Got n → Compared s a bytes f (Ok b) t
-  compared_by {n} bytes l h d w =
+  pub compared_by : {n : ℕ} {b : Bool} (bytes : List ℕ) → length buffer ≡ 512 → 512 ≤ n → Decides b (buffer ≡ bytes) → Came block_rules s (request (header_of Read a) []) f buffer (Ok n) t
+      → Compared s a bytes f (Ok b) t
+  compared_by {n} bytes l h d c =
+      let w = got c in
       let e : buffer ≡ block_at a (disk s) = sym (take_all n buffer (omega arith)) ∙ w.bytes in
       compared w.after ((λ z. sym e ∙ d.0 z), (λ z. d.1 (e ∙ z)))
 
   -- an answer of fewer bytes is no block
-  pub too_few : {n : ℕ} (bytes : List ℕ) → length bytes ≡ 512 → n < 512 → Got n → Compared s a bytes f (Ok false) t
-  too_few {n} bytes l h w =
+  pub too_few : {n : ℕ} (bytes : List ℕ) → length bytes ≡ 512 → n < 512 → Came block_rules s (request (header_of Read a) []) f buffer (Ok n) t → Compared s a bytes f (Ok false) t
+  too_few {n} bytes l h c =
+      let w = got c in
       compared w.after (
         (λ z. absurd (false≢true z)),
         (λ z.

@@ -1,17 +1,19 @@
 -- Blocks that are written and read back, one after the other.
-use Rattle.std.proofs.Common.{◌≡◌, ℕ, ◌+◌, ◌-◌, ◌*◌, ◌<◌, ◌≤◌, Bool, true, false, ◌⊎◌, List, [], length, take, drop, Ok, Err, Result, sym, refl, ap, ◌∙◌, subst, inl, inr, arith}
+use Rattle.std.proofs.Common.{◌≡◌, ℕ, zero, suc, ◌+◌, ◌*◌, ◌<◌, ◌≤◌, Bool, true, false, ◌⊎◌, List, [], ◌++◌, length, take, drop, Ok, Err, Result, sym, refl, ap, ◌∙◌, subst, inl, inr, arith}
 use lib.Seq.{paste}
 use Rattle.std.proofs.lemmas.List.Edits.{paste_none}
-use Rattle.std.proofs.lemmas.List.{take_all, length-take, length-drop}
-use Rattle.std.proofs.lemmas.Bool.{false≢true, cases_lt, cases_eq, cond-true, cond-false, and_from, and_left, le-leb, lt-leb, eq-eqb}
+use Rattle.std.proofs.lemmas.List.{take_all, take-take, length-take, length-drop}
+use Rattle.std.proofs.lemmas.Bool.{false≢true, cases_lt, cond-true, cond-false, and_from, and_left, le-leb, lt-leb, eq-eqb}
 use Rattle.model.specs.Requests.{Request}
 use Rattle.model.specs.declared.refusal.Fault.{Fault}
 use Rattle.block.specs.Blocks.{block_at, with_block, fits}
 use Rattle.driver.specs.States.{State, holding}
-use Rattle.store.proofs.Turns.{there_after, write_turn, same_length, read_turn, block_of_same}
+use Rattle.std.specs.Simd.{first_chunks}
+use Rattle.store.specs.Media.{Puts, all_put, next_put, not_put, Finds, all_found, next_found, other_found, not_found as block_not_found}
+use Rattle.store.proofs.Turns.{there_after, same_length, written_on, more_same, first_same, rest_same}
 use Rattle.archive.specs.declared.archive.StoreError.{StoreError}
 use Rattle.archive.specs.declared.archive.StoreError.TheVariants.{Damaged}
-use Rattle.archive.specs.Disks.{disk, on_disk, with_disk, Stuck, stuck_damaged, Wrote, wrote, not_wrote, Compared, compared, not_compared, Put, put, broke_off, Found, found, not_found}
+use Rattle.archive.specs.Disks.{disk, on_disk, with_disk, Stuck, stuck_damaged, Wrote, wrote, not_wrote, Compared, compared, not_compared, Put, put, broke_off, Found, found, not_found, PutsOne, LooksAtOne}
 
 -- a block fits, and is written, or it does not, and nothing changes
 pub record Fits (xs block : List ℕ) (a : ℕ) : Type 0 where
@@ -89,105 +91,113 @@ module _ (s : State) (a : ℕ) (block : List ℕ) (f : Fault) (l : length block 
       subst (λ (y : State). Compared y a block f r t) e
       (h (ap (λ (y : State). y.waiting) e) (subst (λ (k : ℕ). a < k) (sym (ap (λ (y : State). y.reach) e)) n) l)
 
--- the first i blocks have been put
-pub record Begun (s : State) (first i : ℕ) (bytes : List ℕ) (t : State) : Type 0 where
-  pub room : ((first + i) * 512 ≤ length (disk s)) ⊎ (i ≡ 0)
-  pub after : t ≡ with_disk s (paste (disk s) (first * 512) bytes (i * 512))
-
 -- a driver at which nothing waits, by its disk
 pub unchanged : (s : State) → s.waiting ≡ [] → s ≡ with_disk s (disk s)
 unchanged s w = ap (λ (qs : List Request). holding s qs s.contents) w
 
--- before the first block
-pub begun : (s : State) (first : ℕ) (bytes : List ℕ) → s.waiting ≡ [] → Begun s first 0 bytes s
-begun s first bytes w = record { room = inr refl; after = unchanged s w ∙ ap (with_disk s) (paste_none (disk s) (first * 512) bytes) }
-
--- block i of some bytes, as the code cuts it
-abbrev cut : ℕ → List ℕ → List ℕ
-cut i bytes = take ((i * 512 + 512) - i * 512) (drop (i * 512) bytes)
-
-module _ (s : State) (first i : ℕ) (bytes : List ℕ) (enough : (i + 1) * 512 ≤ length bytes) (room : ((first + i) * 512 ≤ length (disk s)) ⊎ (i ≡ 0)) where
-  -- the disk after i blocks
+-- blocks one after the other, by the memory that each leaves
+module _ (s : State) (a k : ℕ) (xs : List ℕ) (enough : suc k * 512 ≤ length xs) where
+  -- the disk after the first block
   abbrev far : List ℕ
-  far = paste (disk s) (first * 512) bytes (i * 512)
+  far = paste (disk s) (a * 512) (take 512 xs) (1 * 512)
 
-  same_size : length far ≡ length (disk s)
-  same_size = elim room [
-    | inl h ↦ same_length (disk s) bytes far first i refl h (omega arith)
-    | inr z ↦ sym (ap length (paste_none (disk s) (first * 512) bytes ∙ ap (λ (k : ℕ). paste (disk s) (first * 512) bytes (k * 512)) (sym z)))
-  ]
+  same_size : (a + 1) * 512 ≤ length (disk s) → length far ≡ length (disk s)
+  same_size h = let n = length-take 512 xs in same_length (disk s) (take 512 xs) far a 1 refl h (omega arith)
 
-  one_more : (first + i + 1) * 512 ≤ length far → paste far ((first + i) * 512) (cut i bytes) 512 ≡ paste (disk s) (first * 512) bytes ((i + 1) * 512)
-  one_more h = let n = same_size in write_turn (disk s) bytes far first i (omega arith) enough refl
+  more : (j : ℕ) → j ≤ k → (a + 1 + j) * 512 ≤ length (disk s) → paste far ((a + 1) * 512) (drop 512 xs) (j * 512) ≡ paste (disk s) (a * 512) xs (suc j * 512)
+  more j h l = written_on (disk s) xs far a j (omega arith) (omega arith) refl
 
-  pub turn_ok : {t : State} {f : Fault} {x : Unit} → Put (with_disk s far) (first + i) 1 (cut i bytes) f (Ok x) t → Begun s first (i + 1) bytes t
-  turn_ok (put (inl h) e) = let n = same_size in record { room = inl (omega arith); after = e ∙ ap (with_disk s) (one_more h) }
-  turn_ok (put (inr z) e) = absurd (omega arith)
+  -- the rest, behind a first block that was put
+  rest_put : {t : State} {f : Fault} {r : Result Unit StoreError} → (a + 1) * 512 ≤ length (disk s) → Put (with_disk s far) (a + 1) k (drop 512 xs) f r t → Put s a (suc k) xs f r t
+  rest_put h (put (inl l) e) = let n = same_size h in put (inl (omega arith)) (e ∙ ap (with_disk s) (more k (omega arith) (omega arith)))
+  rest_put h (put (inr z) e) = let n = same_size h in put (inl (omega arith)) (e ∙ ap (with_disk s) (more k (omega arith) (omega arith)))
+  rest_put h (broke_off j b (inl l) d c z) = let n = same_size h in broke_off (suc j) (omega arith) (inl (omega arith)) d (c ∙ ap (on_disk s) (more j b (omega arith))) z
+  rest_put h (broke_off j b (inr l) d c z) = let n = same_size h in broke_off (suc j) (omega arith) (inl (omega arith)) d (c ∙ ap (on_disk s) (more j b (omega arith))) z
 
-  pub turn_err : {t : State} {f : Fault} {e : StoreError} (count : ℕ) → i < count → Put (with_disk s far) (first + i) 1 (cut i bytes) f (Err e) t → Put s first count bytes f (Err e) t
-  turn_err count lt (broke_off k h r d c z) = elim (cases_eq k 0) [
-    | inl n ↦ broke_off i (omega arith) room d (c ∙ ap (on_disk s) (ap (λ (j : ℕ). paste far ((first + i) * 512) (cut i bytes) (j * 512)) n ∙ sym (paste_none far ((first + i) * 512) (cut i bytes)))) z
-    | inr n ↦ let one : k ≡ 1 = omega arith in
-        let w : (first + i + 1) * 512 ≤ length far = made one r in
-        let m = same_size in
-        broke_off (i + 1) (omega arith) (inl (omega arith)) d (c ∙ ap (on_disk s) (ap (λ (j : ℕ). paste far ((first + i) * 512) (cut i bytes) (j * 512)) one ∙ one_more w)) z
-  ]
+  pub then_put : {m t : State} {f g : Fault} {r : Result Unit StoreError} {x : Unit} → Put s a 1 (take 512 xs) g (Ok x) m → Put m (a + 1) k (drop 512 xs) f r t → Put s a (suc k) xs f r t
+  then_put {t} {f} {r} (put (inl h) e) p = rest_put h (subst (λ (y : State). Put y (a + 1) k (drop 512 xs) f r t) e p)
+  then_put (put (inr z) e) p = absurd (omega arith)
+
+  -- a first block that breaks off
+  pub stop_put : {t : State} {f : Fault} {e : StoreError} → Put s a 1 (take 512 xs) f (Err e) t → Put s a (suc k) xs f (Err e) t
+  stop_put (broke_off j b l d c z) =
+      broke_off j (omega arith) l d (c ∙ ap (λ (ys : List ℕ). on_disk s (take (a * 512) (disk s) ++ ys ++ drop (a * 512 + j * 512) (disk s))) (take-take (j * 512) 512 xs (omega arith))) z
+
+-- blocks that are compared one after the other
+as_it_was : {u v : State} {a : ℕ} {bs : List ℕ} {f : Fault} {b : Bool} → Compared u a bs f (Ok b) v → v ≡ with_disk u (disk u)
+as_it_was (compared e d) = e
+
+module _ (s : State) (a k : ℕ) (xs : List ℕ) where
+  rest_found : {t : State} {f : Fault} {r : Result Bool StoreError} → take 512 (drop (a * 512) (disk s)) ≡ take 512 xs
+      → Found (with_disk s (disk s)) (a + 1) k (drop 512 xs) f r t → Found s a (suc k) xs f r t
+  rest_found h (found e d) = found e ((λ z. more_same k a (disk s) xs h (d.0 z)), (λ z. d.1 (rest_same k a (disk s) xs z)))
+  rest_found h (not_found d c z) = not_found d c z
+
+  pub then_found : {m t : State} {f g : Fault} {r : Result Bool StoreError} → Compared s a (take 512 xs) g (Ok true) m → Found m (a + 1) k (drop 512 xs) f r t → Found s a (suc k) xs f r t
+  then_found {t} {f} {r} (compared e d) p = rest_found (d.0 refl) (subst (λ (y : State). Found y (a + 1) k (drop 512 xs) f r t) e p)
+
+  pub other : {t : State} {f : Fault} → Compared s a (take 512 xs) f (Ok false) t → Found s a (suc k) xs f (Ok false) t
+  other (compared e d) = found e ((λ z. absurd (false≢true z)), (λ z. d.1 (first_same k a (disk s) xs z)))
+
+  pub stop_found : {t : State} {f : Fault} {e : StoreError} → Compared s a (take 512 xs) f (Err e) t → Found s a (suc k) xs f (Err e) t
+  stop_found (not_compared d c z) = not_found d c z
+
+-- blocks one after the other, through anything with the state of a driver
+module _ {M N : Type 0} (name : M → N) (ok : M → Type 0) (state : M → State) (fault : M → Fault) where
+  pub puts_keep : {s t : M} {a : ℕ} {bs : List (List ℕ)} {r : Result Unit StoreError} → Puts (PutsOne name ok state fault) s a bs r t → name t ≡ name s
+  puts_keep (all_put e) = ap name e
+  puts_keep (next_put p q) = puts_keep q ∙ p.0
+  puts_keep (not_put p) = p.0
+
+  pub finds_keep : {s t : M} {a : ℕ} {bs : List (List ℕ)} {r : Result Bool StoreError} → Finds (LooksAtOne name ok state fault) s a bs r t → name t ≡ name s
+  finds_keep (all_found e) = ap name e
+  finds_keep (next_found p q) = finds_keep q ∙ p.0
+  finds_keep (other_found p) = p.0
+  finds_keep (block_not_found p) = p.0
+
+  -- what is asked once a first block was put or found
+  asked : (k a : ℕ) (s : State) (m : M) (ys : List ℕ) (P : Type 0) → state m ≡ with_disk s ys → a + suc k ≤ s.reach → ((state m).waiting ≡ [] → a + 1 + k ≤ (state m).reach → P) → P
+  asked k a s m ys P e h p = p (ap (λ (y : State). y.waiting) e) (let r = ap (λ (y : State). y.reach) e in omega arith)
+
+  pub puts_all : (k : ℕ) (s t : M) (a : ℕ) (xs : List ℕ) (r : Result Unit StoreError) → k * 512 ≤ length xs → ok s → Puts (PutsOne name ok state fault) s a (first_chunks 512 k xs) r t
+      → ok t × ((state s).waiting ≡ [] → a + k ≤ (state s).reach → Put (state s) a k xs (fault t) r (state t))
+  puts_all zero s t a xs r l o (all_put e) = (subst ok (sym e) o, (λ w h. put (inr refl) (ap state e ∙ (unchanged (state s) w ∙ ap (with_disk (state s)) (paste_none (disk (state s)) (a * 512) xs)))))
+  puts_all (suc k) s t a xs r l o (next_put {m} p q) =
+      let one = p.1 o in
+      let n = length-take 512 xs in
+      let i = length-drop 512 xs in
+      let rest = puts_all k m t (a + 1) (drop 512 xs) r (omega arith) one.0 q in (
+        rest.0,
+        (λ w h.
+            let x = one.1 w (omega arith) (omega arith) in
+            then_put (state s) a k xs l x (let e = now x in asked k a (state s) m _ (Put (state m) (a + 1) k (drop 512 xs) (fault t) r (state t)) e h rest.1)),
+      )
     where
-      made : {k : ℕ} → k ≡ 1 → ((first + i + k) * 512 ≤ length far) ⊎ (k ≡ 0) → (first + i + 1) * 512 ≤ length far
-      made e (inl h) = subst (λ (j : ℕ). (first + i + j) * 512 ≤ length far) e h
-      made e (inr z) = absurd (omega arith)
+      now : {f : Fault} {x : Unit} {u v : State} {bs : List ℕ} → Put u a 1 bs f (Ok x) v → v ≡ with_disk u (paste (disk u) (a * 512) bs (1 * 512))
+      now (put z e) = e
+  puts_all (suc k) s t a xs r l o (not_put p) =
+      let one = p.1 o in
+      let n = length-take 512 xs in
+      (one.0, (λ w h. stop_put (state s) a k xs l (one.1 w (omega arith) (omega arith))))
 
--- one block more that is the same
-module _ (s : State) (first i count : ℕ) (bytes : List ℕ) {f : Fault} {t : State} where
-  pub same_turn : take (i * 512) (drop (first * 512) (disk s)) ≡ take (i * 512) bytes → Compared (with_disk s (disk s)) (first + i) (cut i bytes) f (Ok true) t
-      → (t ≡ with_disk s (disk s)) × (take ((i + 1) * 512) (drop (first * 512) (disk s)) ≡ take ((i + 1) * 512) bytes)
-  same_turn h (compared e d) = (e, read_turn (disk s) bytes first i h (d.0 refl))
-
-  pub other_turn : i < count → Compared (with_disk s (disk s)) (first + i) (cut i bytes) f (Ok false) t → Found s first count bytes f (Ok false) t
-  other_turn lt (compared e d) = found e ((λ z. absurd (false≢true z)), (λ z. absurd (false≢true (d.1 (block_of_same (disk s) bytes first i count lt z)))))
-
-  pub unread_turn : {e : StoreError} → Compared (with_disk s (disk s)) (first + i) (cut i bytes) f (Err e) t → Found s first count bytes f (Err e) t
-  unread_turn (not_compared d c z) = not_found d c z
-
-cut_length : (i count : ℕ) (bytes : List ℕ) → i < count → count * 512 ≤ length bytes → length (cut i bytes) ≡ 512
-cut_length i count bytes h l = simp (length-take, length-drop) (omega arith)
-
--- what is asked of the driver as it is after some blocks
-asked : (s m : State) (first i count : ℕ) (bytes xs : List ℕ) (P : State → Type 0) → m ≡ with_disk s xs → first + count ≤ s.reach → i < count → count * 512 ≤ length bytes
-    → (m.waiting ≡ [] → first + i < m.reach → length (cut i bytes) ≡ 512 → P m) → P (with_disk s xs)
-asked s m first i count bytes xs P e n h l p =
-    subst P e (p (ap (λ (y : State). y.waiting) e) (let r = ap (λ (y : State). y.reach) e in omega arith) (cut_length i count bytes h l))
-
-module _ (s m : State) (first i count : ℕ) (bytes : List ℕ) {f : Fault} {t : State} (w : Begun s first i bytes m) (n : first + count ≤ s.reach) (h : i < count) (l : count * 512 ≤ length bytes) where
-  pub put_again : {x : Unit} → (m.waiting ≡ [] → first + i < m.reach → length (cut i bytes) ≡ 512 → Put m (first + i) 1 (cut i bytes) f (Ok x) t) → Begun s first (i + 1) bytes t
-  put_again {x} p = turn_ok s first i bytes (omega arith) w.room (asked s m first i count bytes _ (λ (y : State). Put y (first + i) 1 (cut i bytes) f (Ok x) t) w.after n h l p)
-
-  pub put_breaks : {e : StoreError} → (m.waiting ≡ [] → first + i < m.reach → length (cut i bytes) ≡ 512 → Put m (first + i) 1 (cut i bytes) f (Err e) t) → Put s first count bytes f (Err e) t
-  put_breaks {e} p = turn_err s first i bytes (omega arith) w.room count h (asked s m first i count bytes _ (λ (y : State). Put y (first + i) 1 (cut i bytes) f (Err e) t) w.after n h l p)
-
-pub put_all : (s : State) (first i count : ℕ) (bytes : List ℕ) {f : Fault} {t : State} → Begun s first i bytes t → i ≤ count → count ≤ i → Put s first count bytes f (Ok tt) t
-put_all s first i count bytes {f} {t} w a b =
-    let e : i ≡ count = omega arith in
-    subst (λ (k : ℕ). Put s first k bytes f (Ok tt) t) e (put w.room w.after)
-
-module _ (s m : State) (first i count : ℕ) (bytes : List ℕ) {f : Fault} {t : State} (w : m ≡ with_disk s (disk s)) (n : first + count ≤ s.reach) (h : i < count) (l : count * 512 ≤ length bytes) where
-  pub same_again : {b : Bool} → b ≡ true → take (i * 512) (drop (first * 512) (disk s)) ≡ take (i * 512) bytes
-      → (m.waiting ≡ [] → first + i < m.reach → length (cut i bytes) ≡ 512 → Compared m (first + i) (cut i bytes) f (Ok b) t)
-      → (t ≡ with_disk s (disk s)) × (take ((i + 1) * 512) (drop (first * 512) (disk s)) ≡ take ((i + 1) * 512) bytes)
-  same_again {b} z e p =
-      same_turn s first i count bytes e
-      (subst (λ (v : Bool). Compared (with_disk s (disk s)) (first + i) (cut i bytes) f (Ok v) t) z (asked s m first i count bytes _ (λ (y : State). Compared y (first + i) (cut i bytes) f (Ok b) t) w n h l p))
-
-  pub other_found : {b : Bool} → b ≡ false → (m.waiting ≡ [] → first + i < m.reach → length (cut i bytes) ≡ 512 → Compared m (first + i) (cut i bytes) f (Ok b) t) → Found s first count bytes f (Ok false) t
-  other_found {b} z p =
-      other_turn s first i count bytes h
-      (subst (λ (v : Bool). Compared (with_disk s (disk s)) (first + i) (cut i bytes) f (Ok v) t) z (asked s m first i count bytes _ (λ (y : State). Compared y (first + i) (cut i bytes) f (Ok b) t) w n h l p))
-
-  pub find_breaks : {e : StoreError} → (m.waiting ≡ [] → first + i < m.reach → length (cut i bytes) ≡ 512 → Compared m (first + i) (cut i bytes) f (Err e) t) → Found s first count bytes f (Err e) t
-  find_breaks {e} p = unread_turn s first i count bytes (asked s m first i count bytes _ (λ (y : State). Compared y (first + i) (cut i bytes) f (Err e) t) w n h l p)
-
-pub find_all : (s : State) (first i count : ℕ) (bytes : List ℕ) {f : Fault} {t : State} → t ≡ with_disk s (disk s) → take (i * 512) (drop (first * 512) (disk s)) ≡ take (i * 512) bytes
-    → i ≤ count → count ≤ i → Found s first count bytes f (Ok true) t
-find_all s first i count bytes {f} {t} w e a b =
-    let z : i ≡ count = omega arith in
-    subst (λ (k : ℕ). Found s first k bytes f (Ok true) t) z (found w ((λ _. e), (λ _. refl)))
+  pub finds_all : (k : ℕ) (s t : M) (a : ℕ) (xs : List ℕ) (r : Result Bool StoreError) → k * 512 ≤ length xs → ok s → Finds (LooksAtOne name ok state fault) s a (first_chunks 512 k xs) r t
+      → ok t × ((state s).waiting ≡ [] → a + k ≤ (state s).reach → Found (state s) a k xs (fault t) r (state t))
+  finds_all zero s t a xs r l o (all_found e) = (subst ok (sym e) o, (λ w h. found (ap state e ∙ unchanged (state s) w) ((λ z. refl), (λ z. refl))))
+  finds_all (suc k) s t a xs r l o (next_found {m} p q) =
+      let one = p.1 o in
+      let n = length-take 512 xs in
+      let i = length-drop 512 xs in
+      let rest = finds_all k m t (a + 1) (drop 512 xs) r (omega arith) one.0 q in (
+        rest.0,
+        (λ w h.
+            let x = one.1 w (omega arith) (omega arith) in
+            then_found (state s) a k xs x (asked k a (state s) m _ (Found (state m) (a + 1) k (drop 512 xs) (fault t) r (state t)) (as_it_was x) h rest.1)),
+      )
+  finds_all (suc k) s t a xs r l o (other_found p) =
+      let one = p.1 o in
+      let n = length-take 512 xs in
+      (one.0, (λ w h. other (state s) a k xs (one.1 w (omega arith) (omega arith))))
+  finds_all (suc k) s t a xs r l o (block_not_found p) =
+      let one = p.1 o in
+      let n = length-take 512 xs in
+      (one.0, (λ w h. stop_found (state s) a k xs (one.1 w (omega arith) (omega arith))))

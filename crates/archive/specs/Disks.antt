@@ -3,12 +3,11 @@ use Rattle.std.specs.Prelude.{◌≡◌, ℕ, ◌+◌, ◌*◌, ◌<◌, ◌≤�
 use Rattle.std.proofs.Math.Seq.{paste}
 use Rattle.model.specs.Requests.{Request, Contents}
 use Rattle.model.specs.declared.refusal.Fault.{Fault}
-use Rattle.model.specs.declared.refusal.Refusal.{Refusal}
 use Rattle.model.specs.declared.refusal.Refusal.TheVariants.{Failed}
-use Rattle.block.specs.Blocks.{block_at, with_block}
+use Rattle.block.specs.declared.op.BlockOp.{BlockOp}
+use Rattle.block.specs.Blocks.{kind_of, block_at, with_block}
 use Rattle.driver.specs.States.{State, holding}
-use Rattle.driver.specs.declared.answers.Collected.{Collected}
-use Rattle.driver.specs.declared.answers.Collected.TheVariants.{Done, Lost, Idle, NotYet}
+use Rattle.model.specs.declared.header.Header.{Header}
 use Rattle.archive.specs.declared.archive.StoreError.{StoreError}
 use Rattle.archive.specs.declared.archive.StoreError.TheVariants.{Refused, Unanswered, Damaged}
 
@@ -24,13 +23,9 @@ on_disk s bytes = record { counters = s.contents.counters; memory = bytes }
 abbrev pub with_disk : State → List ℕ → State
 with_disk s bytes = holding s [] (on_disk s bytes)
 
--- an answer as the store sees it: how many bytes it has, or why there is none
-abbrev pub told : Result Collected Refusal → Result ℕ StoreError
-told (Ok (Done tag n)) = Ok n
-told (Ok (Lost tag)) = Err Unanswered
-told (Ok Idle) = Err Unanswered
-told (Ok NotYet) = Err Unanswered
-told (Err x) = Err (Refused x)
+-- the header of a request for a block, by its address
+abbrev pub header_of : BlockOp → ℕ → Header
+header_of op a = record { tag = a; kind = kind_of op; address = a }
 
 -- why a request got no answer of use, where t is the driver after it and f the pair that it answers while down
 pub data Stuck (f : Fault) (t : State) : StoreError → Type 0 where
@@ -62,3 +57,13 @@ pub data Found (s : State) (first count : ℕ) (bytes : List ℕ) (f : Fault) : 
   found : {t : State} {b : Bool} → t ≡ with_disk s (disk s) → Decides b (take (count * 512) (drop (first * 512) (disk s)) ≡ take (count * 512) bytes)
       → Found s first count bytes f (Ok b) t
   not_found : {t : State} {e : StoreError} → t.reach ≡ s.reach → t.contents ≡ s.contents → Stuck f t e → Found s first count bytes f (Err e) t
+
+-- one block is written through a driver, which stays the one of its name, and read back
+abbrev pub PutsOne : {M N : Type 0} (name : M → N) (ok : M → Type 0) (state : M → State) (fault : M → Fault) → M → ℕ → List ℕ → Result Unit StoreError → M → Type 0
+PutsOne name ok state fault s a block r t = (name t ≡ name s)
+    × (ok s → ok t × ((state s).waiting ≡ [] → a < (state s).reach → length block ≡ 512 → Put (state s) a 1 block (fault t) r (state t)))
+
+-- one block is read through a driver, and compared
+abbrev pub LooksAtOne : {M N : Type 0} (name : M → N) (ok : M → Type 0) (state : M → State) (fault : M → Fault) → M → ℕ → List ℕ → Result Bool StoreError → M → Type 0
+LooksAtOne name ok state fault s a block r t = (name t ≡ name s)
+    × (ok s → ok t × ((state s).waiting ≡ [] → a < (state s).reach → length block ≡ 512 → Compared (state s) a block (fault t) r (state t)))

@@ -1,3 +1,4 @@
 pub mod Disks
+pub mod Errors
 pub mod Rooms
 pub mod Stores

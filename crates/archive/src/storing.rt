@@ -5,10 +5,11 @@ ghost use Rattle.archive.specs.Disks.{disk};
 ghost use Rattle.archive.specs.Stores.{Saved, Keeps, Verified};
 
 use crate::archive::{Store, StoreError};
-use crate::blocks::{finds_blocks, put_blocks};
+use crate::blocks::Through;
 use crate::rooms::room_for;
 use block::Block;
 use driver::Driver;
+use store::{has_blocks, put_blocks};
 
 impl<D: Driver<C = Block>> Store<D> {
     // An empty store on the disk of a driver, whatever the disk holds.
@@ -36,7 +37,8 @@ impl<D: Driver<C = Block>> Store<D> {
     {
         let first = self.next;
         let record = room_for(&self.driver, first, frame)?;
-        put_blocks(&mut self.driver, first, record.count, &record.bytes)?;
+        let driver = &mut self.driver;
+        put_blocks(&mut Through { driver }, first, record.blocks())?;
         self.next = first + record.count;
         Ok(first)
     }
@@ -48,6 +50,7 @@ impl<D: Driver<C = Block>> Store<D> {
         ensures next { self.new.next ≡ self.old.next }
     {
         let record = room_for(&self.driver, first, frame)?;
-        finds_blocks(&mut self.driver, first, record.count, &record.bytes)
+        let driver = &mut self.driver;
+        has_blocks(&mut Through { driver }, first, record.blocks())
     }
 }

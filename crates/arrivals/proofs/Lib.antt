@@ -1,2 +1,2 @@
-mod Counting
-mod Seeks
+pub mod Counting
+pub mod Splits

@@ -1,5 +1,5 @@
 -- Arrivals: frames one after the other, each behind its length in two bytes, the higher first.
-use Rattle.std.specs.Prelude.{ℕ, zero, suc, ◌+◌, ◌*◌, ◌%◌, Bool, cond, ◌&&◌, List, [], ◌∷◌, length, take, ◌==◌, nat_le, slice_index}
+use Rattle.std.specs.Prelude.{ℕ, zero, suc, ◌+◌, ◌*◌, ◌%◌, Bool, cond, ◌&&◌, List, [], ◌∷◌, length, take, drop, Some, None, Option, ◌==◌, nat_le, slice_index}
 
 -- how many bytes the place moves, and the frame that is answered
 pub record Found : Type 0 where
@@ -14,9 +14,20 @@ ended = record { moved = 0; frame = [] }
 abbrev pub usable : ℕ → ℕ → Bool
 usable n m = nat_le 14 n && (nat_le n 1514 && nat_le n m)
 
--- whether level 0 passes over the frame that begins these bytes: its first byte is odd, so it goes to a group
+-- the first frame of these bytes, to a group or not, and what follows it
+abbrev pub split : List ℕ → Option (List ℕ × List ℕ)
+split [] = None
+split (high ∷ []) = None
+split (high ∷ (low ∷ rest)) =
+    cond (usable (high * 256 + low) (length rest)) (Some (take (high * 256 + low) rest, drop (high * 256 + low) rest)) None
+
+-- whether the frame that begins these bytes goes to a group: its first byte is odd
+abbrev pub to_group : List ℕ → Bool
+to_group bytes = slice_index bytes 0 % 2 == 1
+
+-- whether level 0 passes over that frame
 abbrev pub passes : ℕ → List ℕ → Bool
-passes level bytes = level == 0 && slice_index bytes 0 % 2 == 1
+passes level bytes = level == 0 && to_group bytes
 
 -- what comes of an arrival of n bytes, where `next` comes of what follows it
 abbrev pub arrival : ℕ → ℕ → List ℕ → Found → Found

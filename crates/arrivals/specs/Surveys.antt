@@ -1,6 +1,6 @@
 -- The frames of a run of arrivals, counted up to where the arrivals end.
 use Rattle.std.specs.Prelude.{ℕ, zero, suc, ◌+◌, ◌*◌, Bool, cond, List, [], ◌∷◌, length}
-use Rattle.arrivals.specs.Frames.{usable, passes}
+use Rattle.arrivals.specs.Frames.{usable, passes, to_group}
 use Rattle.arrivals.specs.declared.survey.Survey.{Survey}
 
 abbrev pub nothing : Survey
@@ -21,3 +21,8 @@ survey_from zero (high ∷ (low ∷ rest)) =
 
 abbrev pub survey_of : List ℕ → Survey
 survey_of bytes = survey_from 0 bytes
+
+-- the same of a list of frames
+abbrev pub survey_frames : List (List ℕ) → Survey
+survey_frames [] = nothing
+survey_frames (frame ∷ frames) = counted (to_group frame) (length frame) (survey_frames frames)

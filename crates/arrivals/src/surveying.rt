@@ -1,31 +1,23 @@
 // Counting what arrived.
 ghost use Rattle.std.specs.Prelude.{◌≡◌};
-ghost use Rattle.arrivals.specs.Surveys.{survey_of};
+ghost use Rattle.arrivals.specs.Runs.{frames_of};
+ghost use Rattle.arrivals.specs.Surveys.{survey_of, survey_frames};
 
-use crate::frames::{LONGEST, SHORTEST};
+use crate::frames::is_group;
+use crate::runs::frames_in;
 use crate::survey::Survey;
 
 // Counts the frames of a run of arrivals, up to where the arrivals end.
+#[tactic(auto, using(crate::proofs::Counting::counted_frames))]
 pub fn count_frames(bytes: &[u8]) -> Survey
-    ensures { result ≡ survey_of bytes.now }
+    ensures survey { result ≡ survey_of bytes.now }
+    ensures frames { result ≡ survey_frames (frames_of bytes.now) }
 {
-    let mut seen = Survey {
-        frames: 0,
-        groups: 0,
-        used: 0,
-    };
-    let mut left = bytes;
-    while let [high, low, rest @ ..] = left {
-        let n = usize::from(*high) * 256 + usize::from(*low);
-        if n < SHORTEST || n > LONGEST || n > rest.len() {
-            return seen;
-        }
+    let mut seen = Survey::default();
+    for frame in frames_in(bytes) {
         seen.frames += 1;
-        if rest[0] % 2 == 1 {
-            seen.groups += 1;
-        }
-        seen.used += 2 + n;
-        left = &rest[n..];
+        seen.groups += usize::from(is_group(frame));
+        seen.used += 2 + frame.len();
     }
     seen
 }

@@ -1,15 +1,17 @@
 -- From what the parts of a base driver promise to its steps.
-use Rattle.std.proofs.Common.{◌≡◌, ℕ, ◌+◌, ◌<◌, ◌≤◌, Bool, true, false, cond, not, ltb, leb, ◌⊎◌, List, [], ◌∷◌, ◌++◌, length, take, drop, is_ok, Some, None, Ok, Err, fold, Result, sym, refl, ap, ◌∙◌, subst, inl, inr, arith}
+use Rattle.std.proofs.Common.{◌≡◌, ℕ, ◌+◌, ◌<◌, ◌≤◌, Bool, true, false, cond, not, ltb, leb, ◌⊎◌, List, [], ◌∷◌, ◌++◌, length, take, drop, is_ok, Some, None, Ok, Err, fold, Result, Option, sym, refl, ap, ◌∙◌, subst, inl, inr, arith}
 use lib.ListN.{length-map}
 use lib.Seq.{take-append_seam}
 use Rattle.std.specs.List.{slice_get}
-use Rattle.std.specs.Option.{option_map}
+use Rattle.std.specs.Borrow.{Bor}
+use Rattle.std.specs.Option.{option_map, unwrap_or}
+use Rattle.std.proofs.lemmas.Option.{none-some, same_Some}
 use Rattle.std.proofs.lemmas.List.{map-append}
 use Rattle.std.proofs.lemmas.Bool.{cond-true, cond-false, both_ways, le-leb, lt-leb, lt-ltb, eq-eqb, ne_eqb, le-ltb}
 use Rattle.model.specs.Requests.{Request, Contents, Outcome, onto}
 use Rattle.model.specs.Rules.{Rules, Bounds, has_setting, greatest}
 use Rattle.model.specs.declared.refusal.Refusal.{Refusal}
-use Rattle.model.specs.declared.refusal.Refusal.TheVariants.{Full, Room}
+use Rattle.model.specs.declared.refusal.Refusal.TheVariants.{Failed, Full, Room}
 use Rattle.device.specs.Performing.{outcome, Performed}
 use Rattle.compaction.specs.Kinds.{by_number}
 use Rattle.compaction.specs.Compaction.{update, entry_of}
@@ -18,16 +20,17 @@ use Rattle.entries.specs.declared.item.Item.{Item}
 use Rattle.entry_log.specs.Kinds.{membership_kind}
 use Rattle.entry_log.specs.Items.{noted, entries_of}
 use Rattle.entries.proofs.Updates.{entries_noted}
-use Rattle.queue.specs.Kept.{Kept, verdict, head_of, payload_of, fresh, weight as kept_weight}
+use Rattle.heads.specs.Kept.{Kept, verdict, header_of, head_of, payload_of, fresh, weight as kept_weight}
 use Rattle.heads.specs.declared.head.Head.{Head}
 use Rattle.driver.specs.States.{level, joined_count}
-use Rattle.driver.specs.Calls.{set, join, submit, collect, done}
+use Rattle.driver.specs.Calls.{Call, Fallible, set, join, submit, collect, done}
 use Rattle.driver.specs.Rules.{tests, first, after, weight}
-use Rattle.driver.specs.Replies.{plain}
-use Rattle.basis.specs.Views.{View, Ok as Fit, meaning, with_waiting}
-use Rattle.basis.specs.Steps.{Step, does, refuses, submits}
+use Rattle.driver.specs.Replies.{plain, pair}
+use Rattle.basis.specs.Views.{View, Ok as Fit, meaning, with_waiting, cleared}
+use Rattle.basis.specs.Steps.{Step, down, does, refuses, submits}
 use Rattle.basis.proofs.Stays.{joined_length, front_allowed}
-use Rattle.base.specs.Held.{requests}
+use Rattle.base.specs.Held.{requests, holding}
+use Rattle.base.specs.declared.parts.Running.{Running}
 
 pub noting : (i : ℕ → ℕ) (k v : ℕ) (is js : List Item) → js ≡ noted (by_number i) (entry_of k v) is → entries_of js ≡ update (by_number i) (entries_of is) (entry_of k v)
 noting i k v is js e = ap entries_of e ∙ entries_noted (by_number i) (entry_of k v) is
@@ -37,6 +40,24 @@ never_full i k v is l e =
     let a = ap length (entries_noted (by_number i) (entry_of k v) is) in
     let b = length-map (noted (by_number i) (entry_of k v) is) (λ (x : Item). x.entry) in
     both_ways _ (sym e) (le-leb (length (noted (by_number i) (entry_of k v) is)) 24 (omega arith))
+
+-- a note that always has room is taken, and the entries follow it
+pub taken : (i : ℕ → ℕ) (k v : ℕ) (is js : List Item) (r : Result Unit Refusal) → length (update (by_number i) (entries_of is) (entry_of k v)) ≤ 24
+    → is_ok r ≡ leb (length (noted (by_number i) (entry_of k v) is)) 24 → js ≡ cond (is_ok r) (noted (by_number i) (entry_of k v) is) is
+    → (r ≡ Ok tt) × (entries_of js ≡ update (by_number i) (entries_of is) (entry_of k v))
+taken i k v is js (Ok x) l t e = (refl, noting i k v is js e)
+taken i k v is js (Err x) l t e = absurd (never_full i k v is l t)
+
+-- a call of a driver that is down
+pub shut_down : {C : Type 0} (u : Rules) (n : ℕ) (x : Contents) (w : Option (Running C)) (k : Call) (r : Result Unit Refusal) → Fallible k
+    → w ≡ None → r ≡ Err (Failed (pair 1 0)) → Step u (holding n x w) k (plain r) (holding n x w)
+shut_down u n x w k r f e d = rw (e, d) (down f refl refl)
+
+-- a driver with nothing set, joined or waiting, whatever it held
+pub cleared_any : {C : Type 0} (n : ℕ) (x : Contents) (w : Option (Running C)) (up : Bool)
+    → record { up = up; reach = n; settings = []; roll = []; waiting = []; contents = x } ≡ cleared (holding n x w) up
+cleared_any n x None up = refl
+cleared_any n x (Some kept) up = refl
 
 weight_requests : (ks : List Kept) → weight (requests ks) ≡ kept_weight ks
 weight_requests ks = from 0 ks
@@ -84,7 +105,7 @@ module _ (u : Rules) (s : View) where
 
   -- what a submit is to be, where the queue answered x
   abbrev Submit : Request → List Kept → Result Unit Refusal → Type 0
-  Submit q ks x = Step u s (submit q) (plain x) (with_waiting s (requests (cond (is_ok x) (ks ++ fresh q.tag q.kind q.address q.payload ∷ []) ks)) s.contents)
+  Submit q ks x = Step u s (submit q) (plain x) (with_waiting s (requests (cond (is_ok x) (ks ++ fresh (header_of q) q.payload ∷ []) ks)) s.contents)
 
   by_cases : (q : Request) (ks : List Kept) (x y : Bool) → s.up ≡ true → s.waiting ≡ requests ks
       → first (tests u (meaning u s) (submit q)) ≡ cond x (Some 10) (cond y (Some 11) None) → Submit q ks (cond x (Err Full) (cond y (Err Room) (Ok tt)))
@@ -92,11 +113,11 @@ module _ (u : Rules) (s : View) where
   by_cases q ks false true up w e = refuses 11 up e (ap (λ (l : List Request). with_waiting s l s.contents) (sym w))
   by_cases q ks false false up w e =
       submits up e
-      (ap (λ (l : List Request). with_waiting s l s.contents) (map-append (λ (x : Kept). x.request) ks (fresh q.tag q.kind q.address q.payload ∷ []) ∙ ap (λ (l : List Request). l ++ (q ∷ [])) (sym w)))
+      (ap (λ (l : List Request). with_waiting s l s.contents) (map-append (λ (x : Kept). x.request) ks (fresh (header_of q) q.payload ∷ []) ∙ ap (λ (l : List Request). l ++ (q ∷ [])) (sym w)))
 
   -- a request that passes the class's tests, and what the queue made of it
   pub submitted : (q : Request) (ks ks' : List Kept) (r : Result Unit Refusal) → s.up ≡ true → u.kind q.kind ≡ true → q.address < s.reach → u.takes q.kind (length q.payload) ≡ true
-      → s.waiting ≡ requests ks → r ≡ verdict ks (length q.payload) → ks' ≡ cond (is_ok r) (ks ++ fresh q.tag q.kind q.address q.payload ∷ []) ks
+      → s.waiting ≡ requests ks → r ≡ verdict ks (length q.payload) → ks' ≡ cond (is_ok r) (ks ++ fresh (header_of q) q.payload ∷ []) ks
       → Step u s (submit q) (plain r) (with_waiting s (requests ks') s.contents)
   submitted q ks ks' r up k a p w e e' =
       let told : first (tests u (meaning u s) (submit q)) ≡ cond (leb 16 (length ks)) (Some 10) (cond (ltb 8192 (kept_weight ks + length q.payload)) (Some 11) None) =
@@ -110,6 +131,11 @@ pub none_of : (ks : List Kept) → None ≡ option_map head_of (slice_get ks 0) 
 none_of [] e = refl
 none_of (k ∷ rest) e = let z : ◌≡◌ {A = ℕ} 0 1 = cc in absurd (omega arith)
 
+-- the payload of the oldest request, where there is one
+pub oldest_payload : (p : Option (Bor (List ℕ))) (bytes d : Bor (List ℕ)) (ys : List ℕ) → bytes ≡ unwrap_or p d → option_map (λ b. b.now) p ≡ Some ys → bytes.now ≡ ys
+oldest_payload None bytes d ys e f = absurd (none-some ys f)
+oldest_payload (Some b) bytes d ys e f = ap (λ (x : Bor (List ℕ)). x.now) e ∙ same_Some b.now ys f
+
 -- the answer is what stands at the front of the buffer
 answer_is : (a buffer buffer' : List ℕ) (n : ℕ) → buffer' ≡ onto a buffer → n ≡ length a → take n buffer' ≡ a
 answer_is a buffer buffer' n e l = (λ i. take (l i) (e i)) ∙ take-append_seam a (drop (length a) buffer)
@@ -120,17 +146,17 @@ framed a buffer buffer' n e l = e ∙ ap (λ (x : List ℕ). onto x buffer) (sym
 pub collected : (u : Rules) (s : View) (ks rest : List Kept) (h : Head) (l : ℕ) (p buffer buffer' : List ℕ) (n reach' : ℕ) (x' : Contents)
     → Bounds u → Fit u s → s.up ≡ true → u.longest ≤ length buffer → s.waiting ≡ requests ks → Some h ≡ option_map head_of (slice_get ks 0) → rest ≡ drop 1 ks
     → l ≡ level (meaning u s) → ((ys : List ℕ) → option_map payload_of (slice_get ks 0) ≡ Some ys → p ≡ ys)
-    → Performed s.reach buffer (outcome u s.reach s.contents l h.kind h.address p (length buffer)) reach' x' buffer' n
-    → Step u s (collect (length buffer)) (done h.tag (take n buffer')) (record { up = s.up; reach = reach'; settings = s.settings; roll = s.roll; waiting = requests rest; contents = x' })
+    → Performed s.reach buffer (outcome u s.reach s.contents l h.header.kind h.header.address p (length buffer)) reach' x' buffer' n
+    → Step u s (collect (length buffer)) (done h.header.tag (take n buffer')) (record { up = s.up; reach = reach'; settings = s.settings; roll = s.roll; waiting = requests rest; contents = x' })
 collected u s [] rest h l p buffer buffer' n reach' x' b o up room w f d lv pe m = let z : ◌≡◌ {A = ℕ} 0 1 = cc in absurd (omega arith)
 collected u s (k ∷ ks) rest h l p buffer buffer' n reach' x' b o up room w f d lv pe m =
     let q : Request = k.request in
     let open' : first (tests u (meaning u s) (collect (length buffer))) ≡ None = cond-false _ _ _ (le-ltb _ _ room) in
     let eh : h ≡ head_of k = cc in
     let ep : p ≡ q.payload = pe q.payload refl in
-    let out : outcome u s.reach s.contents l h.kind h.address p (length buffer) ≡ after u (meaning u s) q =
-    (λ i. outcome u s.reach s.contents (lv i) (eh i).kind (eh i).address (ep i) (length buffer))
+    let out : outcome u s.reach s.contents l h.header.kind h.header.address p (length buffer) ≡ after u (meaning u s) q =
+    (λ i. outcome u s.reach s.contents (lv i) (eh i).header.kind (eh i).header.address (ep i) (length buffer))
     ∙ cond-true _ _ _ (front_allowed u s q (requests ks) (length buffer) b o w open') in
-    does q (requests ks) up open' w (ap (λ (x : Head). x.tag) eh)
+    does q (requests ks) up open' w (ap (λ (x : Head). x.header.tag) eh)
     (answer_is _ buffer buffer' n m.buffer m.count ∙ ap (λ (z : Outcome). z.answer) out)
     (λ i. record { up = s.up; reach = m.reach i; settings = s.settings; roll = s.roll; waiting = requests (d i); contents = (m.contents ∙ ap (λ (z : Outcome). z.contents) out) i })

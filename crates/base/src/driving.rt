@@ -1,11 +1,7 @@
 // The base driver's calls.
-ghost use Rattle.std.specs.Prelude.{◌≡◌, ℕ, ◌^◌, ◌<◌, false, List, Some};
-ghost use Rattle.std.specs.List.{slice_get};
-ghost use Rattle.std.specs.Option.{option_map};
+ghost use Rattle.std.specs.Prelude.{◌≡◌, ◌^◌, ◌<◌, false};
 ghost use Rattle.driver.specs.States.{bare};
 ghost use Rattle.driver.specs.Replies.{pair};
-ghost use Rattle.queue.specs.Kept.{payload_of};
-ghost use Rattle.queue.specs.Layout.{kept};
 ghost use Rattle.basis.specs.Views.{Ok, meaning};
 ghost use Rattle.basis.specs.Steps.{Step};
 ghost use Rattle.base.specs.Held.{view};
@@ -13,31 +9,20 @@ ghost use Rattle.basis.proofs.Keeps.{law, empties};
 ghost use Rattle.basis.proofs.Stays.{stay};
 ghost use Rattle.base.specs.Pairs.{paired};
 
-use crate::parts::BaseDriver;
-use device::Device;
+use crate::noting::{has_joined, note_in};
+use crate::parts::{BaseDriver, Running};
+use device::{Command, Device};
 use driver::{Collected, Driver, Header};
-use entry_log::Log;
-use model::{Class, Fault, Refusal};
-use queue::Queue;
+use model::{Class, Fault, Operation, Refusal};
 
-// The pair of a base driver that is down.
-const DOWN: Fault = Fault { layer: 1, place: 0 };
+// What a base driver that is down answers.
+const DOWN: Refusal = Refusal::Failed(Fault { layer: 1, place: 0 });
 
 // A number of 32 bits, where it is one.
 fn low(x: u64) -> u32
     ensures { x < 2 ^ 32 → result ≡ x }
 {
-    if x < 4294967296 { x as u32 } else { 0 }
-}
-
-// The payload of the oldest request, if there is one.
-fn oldest_payload(queue: &Queue) -> &[u8]
-    ensures { (bytes : List ℕ) → option_map payload_of (slice_get (kept queue.now) 0) ≡ Some bytes → result.now ≡ bytes }
-{
-    match queue.payload(0) {
-        Some(payload) => payload,
-        None => &[],
-    }
+    u32::try_from(x).unwrap_or(0)
 }
 
 impl<V: Device> BaseDriver<V> {
@@ -47,10 +32,7 @@ impl<V: Device> BaseDriver<V> {
         ensures state { meaning V.C.Class.rules (view V.Device.reach V.Device.contents result) ≡ bare V.C.Class.rules false (V.Device.reach device) (V.Device.contents device) }
     {
         BaseDriver {
-            up: false,
-            settings: Log::new(),
-            roll: Log::new(),
-            queue: Queue::new(),
+            running: None,
             device,
         }
     }
@@ -85,27 +67,26 @@ impl<V: Device> Driver for BaseDriver<V> {
     ghost repeats = { λ s c a b t o d f h. paired V.C.Class.rules (view V.Device.reach V.Device.contents s) c a b (view V.Device.reach V.Device.contents t) h };
 
     fn get(&self, key: u32) -> Result<u32, Refusal> {
-        if !self.up {
-            return Err(Refusal::Failed(DOWN));
-        }
-        if !V::C::has_setting(key as u64) {
+        let running = self.running.as_ref().ok_or(DOWN)?;
+        let key = u64::from(key);
+        if !V::C::has_setting(key) {
             return Err(Refusal::Setting);
         }
-        Ok(low(self.settings.content(key as u64)))
+        Ok(low(running.settings.content(key)))
     }
 
     fn joined(&self, name: u32) -> Result<bool, Refusal> {
-        if !self.up {
-            return Err(Refusal::Failed(DOWN));
-        }
+        let running = self.running.as_ref().ok_or(DOWN)?;
         if !V::C::has_name(name) {
             return Err(Refusal::Name);
         }
-        Ok(self.roll.content(name as u64) == 1)
+        Ok(has_joined(&running.roll, name))
     }
 
     fn waiting(&self) -> usize {
-        self.queue.len()
+        self.running
+            .as_ref()
+            .map_or(0, |running| running.queue.len())
     }
 
     fn reach(&self) -> u32 {
@@ -113,110 +94,76 @@ impl<V: Device> Driver for BaseDriver<V> {
     }
 
     fn set(&mut self, key: u32, value: u32) -> Result<(), Refusal> {
-        if !self.up {
-            return Err(Refusal::Failed(DOWN));
-        }
-        if !V::C::has_setting(key as u64) {
+        let running = self.running.as_mut().ok_or(DOWN)?;
+        if !V::C::has_setting(u64::from(key)) {
             return Err(Refusal::Setting);
         }
-        if V::C::greatest(key as u64) < value as u64 {
+        if V::C::greatest(u64::from(key)) < u64::from(value) {
             return Err(Refusal::Value);
         }
-        match self.settings.note(key as u64, value as u64) {
-            Ok(()) => Ok(()),
-            // no log has room for fewer entries than a class has settings
-            Err(_) => Err(Refusal::Value),
-        }
+        // no log has room for fewer entries than a class has settings
+        note_in(&mut running.settings, key, value, Refusal::Value)
     }
 
     fn join(&mut self, name: u32) -> Result<(), Refusal> {
-        if !self.up {
-            return Err(Refusal::Failed(DOWN));
-        }
+        let running = self.running.as_mut().ok_or(DOWN)?;
         if !V::C::has_name(name) {
             return Err(Refusal::Name);
         }
-        let known = self.roll.content(name as u64) == 1;
-        if !known {
-            if self.roll.len() >= V::C::most_joined() {
-                return Err(Refusal::Roll);
-            }
+        if !has_joined(&running.roll, name) && running.roll.len() >= V::C::ROLL_LIMIT {
+            return Err(Refusal::Roll);
         }
-        match self.roll.note(name as u64, 1) {
-            Ok(()) => Ok(()),
-            // no log has room for fewer entries than a roll has names
-            Err(_) => Err(Refusal::Roll),
-        }
+        // no log has room for fewer entries than a roll has names
+        note_in(&mut running.roll, name, u32::from(true), Refusal::Roll)
     }
 
     fn leave(&mut self, name: u32) -> Result<(), Refusal> {
-        if !self.up {
-            return Err(Refusal::Failed(DOWN));
-        }
+        let running = self.running.as_mut().ok_or(DOWN)?;
         if !V::C::has_name(name) {
             return Err(Refusal::Name);
         }
-        match self.roll.note(name as u64, 0) {
-            Ok(()) => Ok(()),
-            // an entry that goes needs no room
-            Err(_) => Err(Refusal::Roll),
-        }
+        // an entry that goes needs no room
+        note_in(&mut running.roll, name, u32::from(false), Refusal::Roll)
     }
 
     fn submit(&mut self, header: Header, payload: &[u8]) -> Result<(), Refusal> {
-        if !self.up {
-            return Err(Refusal::Failed(DOWN));
-        }
-        if !V::C::has_kind(header.kind) {
-            return Err(Refusal::Kind);
-        }
+        let running = self.running.as_mut().ok_or(DOWN)?;
+        let op = V::C::operation(header.kind).ok_or(Refusal::Kind)?;
         if header.address >= self.device.reaches() {
             return Err(Refusal::Address);
         }
-        if !V::C::takes(header.kind, payload.len()) {
+        if !op.takes(payload.len()) {
             return Err(Refusal::Payload);
         }
-        self.queue
-            .push(header.tag, header.kind, header.address, payload)
+        running.queue.push(header, payload)
     }
 
     fn collect(&mut self, buffer: &mut [u8]) -> Result<Collected, Refusal> {
-        if !self.up {
-            return Err(Refusal::Failed(DOWN));
-        }
-        if buffer.len() < V::C::answer_bytes() {
+        let running = self.running.as_mut().ok_or(DOWN)?;
+        if buffer.len() < V::C::LONGEST_ANSWER {
             return Err(Refusal::Answer);
         }
-        let Some(head) = self.queue.front() else {
+        let Some(head) = running.queue.front() else {
             return Ok(Collected::Idle);
         };
-        let level = low(self.settings.content(0));
-        let length = self.device.perform(
-            level,
-            head.kind,
-            head.address,
-            oldest_payload(&self.queue),
-            buffer,
-        );
-        self.queue.pop();
-        Ok(Collected::Done {
-            tag: head.tag,
-            length,
-        })
+        let Header { tag, kind, address } = head.header;
+        let command = Command {
+            level: low(running.settings.content(0)),
+            kind,
+            address,
+            payload: running.queue.payload(0).unwrap_or(&[]),
+        };
+        let length = self.device.perform(&command, buffer);
+        running.queue.pop();
+        Ok(Collected::Done { tag, length })
     }
 
     fn stop(&mut self) {
-        self.up = false;
-        self.settings.clear();
-        self.roll.clear();
-        self.queue.clear();
+        self.running = None;
     }
 
     fn restart(&mut self) -> Result<(), Refusal> {
-        self.up = true;
-        self.settings.clear();
-        self.roll.clear();
-        self.queue.clear();
+        self.running = Some(Running::new());
         Ok(())
     }
 }

@@ -2,6 +2,7 @@
 #![tactic(auto)]
 
 mod driving;
+mod noting;
 mod parts;
 
 pub use parts::BaseDriver;

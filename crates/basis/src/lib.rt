@@ -4,8 +4,6 @@
 
 ghost use Rattle.basis.specs.Steps.{KeepRules};
 
-pub fn steps_keep_rules() -> u8
+pub fn steps_keep_rules()
     ensures { KeepRules }
-{
-    0
-}
+{}

@@ -1,7 +1,8 @@
 -- The block class: what its requests do to a memory of blocks.
-use Rattle.std.specs.Prelude.{ℕ, ◌+◌, ◌*◌, Bool, false, cond, ◌&&◌, List, [], ◌∷◌, length, take, drop, is_some, Some, None, Option, ◌==◌, nat_le}
+use Rattle.std.specs.Prelude.{ℕ, ◌+◌, ◌*◌, Bool, cond, ◌&&◌, List, [], ◌∷◌, length, take, drop, is_some, Some, None, Option, ◌==◌, nat_le}
 use Rattle.std.proofs.Math.Seq.{paste}
 use Rattle.model.specs.Requests.{Contents, Outcome, untouched}
+use Rattle.model.specs.Kinds.{takes_of}
 use Rattle.model.specs.Rules.{Rules, between}
 use Rattle.model.specs.declared.setting.SettingRange.{SettingRange}
 use Rattle.block.specs.declared.op.BlockOp.{BlockOp}
@@ -18,11 +19,10 @@ abbrev pub op_of : ℕ → Option BlockOp
 op_of k = cond (k == 1) (Some Read) (cond (k == 2) (Some Write) (cond (k == 3) (Some Flush) None))
 
 -- the payload lengths of each kind: a write has one block, the others nothing
-abbrev pub takes : Option BlockOp → ℕ → Bool
-takes None n = false
-takes (Some Read) n = n == 0
-takes (Some Write) n = n == 512
-takes (Some Flush) n = n == 0
+abbrev pub takes : BlockOp → ℕ → Bool
+takes Read n = n == 0
+takes Write n = n == 512
+takes Flush n = n == 0
 
 -- the 512 bytes at an address
 abbrev pub block_at : ℕ → List ℕ → List ℕ
@@ -54,7 +54,7 @@ block_rules = record {
   limit = 4;
   longest = 512;
   kind = λ k. is_some (op_of k);
-  takes = λ k n. takes (op_of k) n;
+  takes = λ k n. takes_of takes (op_of k) n;
   declared = λ k. is_some (op_of k);
   holds = λ reach x. nat_le reach 1024 && (length x.memory == reach * 512);
   perform = λ x level k a payload. act (op_of k) x a payload;

@@ -1,10 +1,11 @@
 -- The bounds and the law of the block class.
-use Rattle.std.specs.Prelude.{◌≡◌, ℕ, ◌+◌, ◌*◌, ◌≤◌, true, List, [], length, Some, None, Option, nat_le, refl}
+use Rattle.std.specs.Prelude.{◌≡◌, ℕ, ◌+◌, ◌*◌, ◌≤◌, true, List, [], length, is_some, Some, None, Option, nat_le, refl}
 use Rattle.std.proofs.Common.{sym, ap, ◌∙◌, ⊎_elim, arith, rules}
 use Rattle.std.proofs.Math.Seq.{paste}
 use Rattle.std.proofs.lemmas.List.{same_lists, places}
 use Rattle.std.proofs.lemmas.List.Edits.{length-paste}
 use Rattle.std.proofs.lemmas.Bool.{cond-true, cond-false, cases_Bool, and_parts, leb-true, eqb-true}
+use Rattle.model.specs.Kinds.{declared_of}
 use Rattle.model.specs.Requests.{Contents}
 use Rattle.model.specs.Rules.{Bounds, Repeatable}
 use Rattle.block.specs.declared.op.BlockOp.{BlockOp}
@@ -50,3 +51,11 @@ bounds = record {
   few_joined = omega arith;
   short_answers = omega arith;
 }
+
+-- every kind is declared
+declared_all : (o : Option BlockOp) → is_some o ≡ declared_of (λ _. true) o
+declared_all None = refl
+declared_all (Some _) = refl
+
+pub declares : (k : ℕ) → block_rules.declared k ≡ declared_of (λ _. true) (op_of k)
+declares k = declared_all (op_of k)

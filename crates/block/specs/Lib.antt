@@ -1,4 +1,4 @@
 pub mod Blocks
 pub mod Disks
-pub mod Memories
 pub mod Laws
+pub mod Memories

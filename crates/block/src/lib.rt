@@ -3,8 +3,10 @@
 
 mod class;
 mod disk;
+pub mod memory;
 pub mod op;
 
 pub use class::Block;
-pub use disk::{Disk, LentDisk};
+pub use disk::{BLOCK, Disk, LentDisk};
+pub use memory::Memory;
 pub use op::BlockOp;

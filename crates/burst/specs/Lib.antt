@@ -1,3 +1,4 @@
 pub mod Bursts
 pub mod Calls
 pub mod Counts
+pub mod Audits

@@ -1,30 +1,18 @@
 // Counting what becomes of frames.
 ghost use Rattle.std.specs.Prelude.{◌≡◌};
-ghost use Rattle.burst.specs.Counts.{none_yet, added, counted};
+ghost use Rattle.burst.specs.Counts.{added, counted};
 
 use crate::tally::Tally;
 use intake::Event;
 
 impl Tally {
-    pub(crate) fn new() -> Tally
-        ensures { result ≡ none_yet }
-    {
-        Tally {
-            stored: 0,
-            refused: 0,
-            bytes: 0,
-        }
-    }
-
     pub(crate) fn count(&mut self, event: Event)
         ensures { self.new ≡ counted self.old event }
     {
         match event {
-            Event::Stored { size, .. } => self.add(size),
-            Event::Unacknowledged { size, .. } => self.add(size),
+            Event::Stored { size, .. } | Event::Unacknowledged { size, .. } => self.add(size),
             Event::NotStored { .. } => self.refused = self.refused.saturating_add(1),
-            Event::Ended => {}
-            Event::Silent(_) => {}
+            Event::Ended | Event::Silent(_) => {}
         }
     }
 

@@ -5,23 +5,21 @@ ghost use Rattle.burst.specs.Calls.{Restarted, Mended, Counts};
 use crate::lines::report_refusal;
 use driver::{Driver, Header};
 use exchange::exchange;
+use model::ANSWER_LIMIT;
 use network::{Network, NetworkOp};
 use reply::counters;
 use sound::{Sound, SoundOp};
 use std::io;
 
-// No class has a longer answer.
-const LONGEST_ANSWER: usize = 1514;
-
-// Starts a driver, and says whether it is up.
-pub fn start<D: Driver>(rt: &impl Print, driver: &mut D) -> io::Result<bool>
+// Starts a driver, and says whether it is up; a refusal is told under the name of the call.
+pub fn start<D: Driver>(rt: &impl Print, call: &str, driver: &mut D) -> io::Result<bool>
     ensures fine { D.Driver.ok driver.old → D.Driver.ok driver.new }
     ensures calls { IfOk result (λ b. D.Driver.ok driver.old → Restarted D.Driver.steps driver.old b driver.new) }
 {
     match driver.restart() {
         Ok(()) => Ok(true),
         Err(refusal) => {
-            report_refusal(rt, "restart", refusal)?;
+            report_refusal(rt, call, refusal)?;
             Ok(false)
         }
     }
@@ -39,22 +37,23 @@ pub fn mend<N: Driver<C = Network>>(rt: &impl Print, wire: &mut N) -> io::Result
     let reach = wire.reach();
     report_refusal(rt, "get", refusal)?;
     println!(rt; "network: down, waiting {waiting}, reach {reach}")?;
-    let _ = start(rt, wire)?;
+    let _ = start(rt, "restart", wire)?;
     Ok(())
 }
 
-// Tells the counters of the wire and of the speaker, each asked through its driver.
-pub fn report_counters<N: Driver<C = Network>, S: Driver<C = Sound>>(
-    rt: &impl Print,
-    wire: &mut N,
-    speaker: &mut S,
-) -> io::Result<()>
-    ensures wire { N.Driver.ok wire.old → Counts N.Driver.steps wire.old 3 wire.new }
-    ensures speaker { S.Driver.ok speaker.old → Counts S.Driver.steps speaker.old 2 speaker.new }
+// Tells the counters of the wire, asked through its driver.
+pub fn report_wire<N: Driver<C = Network>>(rt: &impl Print, wire: &mut N) -> io::Result<()>
+    ensures { N.Driver.ok wire.old → Counts N.Driver.steps wire.old 3 wire.new }
 {
-    let (sent, total) = counted(wire, NetworkOp::Counters.kind());
-    let (samples, loudness) = counted(speaker, SoundOp::Counters.kind());
-    println!(rt; "wire: {sent} frames sent, byte total {total}")?;
+    let (sent, total) = counted(wire, u8::from(NetworkOp::Counters));
+    println!(rt; "wire: {sent} frames sent, byte total {total}")
+}
+
+// Tells the counters of the speaker, asked through its driver.
+pub fn report_speaker<S: Driver<C = Sound>>(rt: &impl Print, speaker: &mut S) -> io::Result<()>
+    ensures { S.Driver.ok speaker.old → Counts S.Driver.steps speaker.old 2 speaker.new }
+{
+    let (samples, loudness) = counted(speaker, u8::from(SoundOp::Counters));
     println!(rt; "speaker: {samples} samples, total {loudness}")
 }
 
@@ -67,7 +66,7 @@ fn counted<D: Driver>(driver: &mut D, kind: u8) -> (u32, u32)
         kind,
         address: 0,
     };
-    let mut answer = [0u8; LONGEST_ANSWER];
+    let mut answer = [0u8; ANSWER_LIMIT];
     let _ = exchange(driver, header, &[], &mut answer);
     counters(&answer)
 }

@@ -1,30 +1,28 @@
 // Lines about frames and refusals.
-use archive::StoreError;
+use crate::tally::Tally;
 use intake::{Event, Silence};
 use model::Refusal;
+use network::Survey;
 use std::io;
 
 // A call of the network that was refused: FAILED with its pair, or the number of the refusal.
 pub(crate) fn report_refusal(rt: &impl Print, call: &str, refusal: Refusal) -> io::Result<()> {
-    let number = refusal.number();
     match refusal.fault() {
-        Some(fault) => {
-            let layer = fault.layer;
-            let place = fault.place;
-            println!(rt; "network: {call} answered FAILED ({layer}, {place})")
-        }
-        None => println!(rt; "network: {call} was refused, number {number}"),
+        Some(fault) => println!(rt; "network: {call} answered FAILED {fault}"),
+        None => println!(rt;
+            "network: {call} was refused, number {}",
+            u32::from(refusal)
+        ),
     }
 }
 
-// What became of a frame.
+// What became of a frame: one line or two, the second of the network, so an event has no `Display` of its own.
 pub(crate) fn report_event(rt: &impl Print, number: usize, event: Event) -> io::Result<()> {
     match event {
         Event::Ended => Ok(()),
         Event::Silent(silence) => report_silence(rt, "receive", silence),
         Event::NotStored { size, error } => {
-            let reason = reason_of(error);
-            println!(rt; "frame {number}: {size} bytes, not stored: {reason}")
+            println!(rt; "frame {number}: {size} bytes, not stored: {error}")
         }
         Event::Stored { first, size } => report_stored(rt, number, first, size),
         Event::Unacknowledged {
@@ -49,13 +47,18 @@ fn report_silence(rt: &impl Print, call: &str, silence: Silence) -> io::Result<(
     }
 }
 
-fn reason_of(error: StoreError) -> &'static str {
-    match error {
-        StoreError::TooLong => "longer than any frame",
-        StoreError::Full => "the disk is full",
-        StoreError::Busy => "the disk's driver has other requests waiting",
-        StoreError::Refused(_) => "the disk's driver refused",
-        StoreError::Unanswered => "the disk's driver did not answer",
-        StoreError::Damaged => "it did not read back",
+// What arrived in so many bytes, and what was stored of it.
+pub fn report_burst(rt: &impl Print, size: usize, seen: Survey, tally: Tally) -> io::Result<()> {
+    match size.saturating_sub(seen.used) {
+        0 => println!(rt; "arrivals: all bytes are whole frames")?,
+        left => println!(rt; "arrivals: the last {left} bytes are no whole frame")?,
     }
+    let Survey { frames, groups, .. } = seen;
+    println!(rt; "frames arrived: {frames}, group frames among them: {groups}")?;
+    let Tally {
+        stored,
+        refused,
+        bytes,
+    } = tally;
+    println!(rt; "frames stored: {stored}, not stored: {refused}, bytes stored: {bytes}")
 }

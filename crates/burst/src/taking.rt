@@ -8,18 +8,16 @@ use crate::tally::Tally;
 use block::Block;
 use driver::Driver;
 use intake::{Event, Intake};
-use network::Network;
+use network::{LONGEST_FRAME, Network};
 use sound::Sound;
 use std::io;
 
-const LONGEST_FRAME: usize = 1514;
-
 // Whether a burst ends with such a frame: nothing arrives any more, or the network does not answer.
 fn ends(event: Event) -> bool {
-    match event {
-        Event::Ended | Event::Silent(_) | Event::Unacknowledged { .. } => true,
-        Event::NotStored { .. } | Event::Stored { .. } => false,
-    }
+    matches!(
+        event,
+        Event::Ended | Event::Silent(_) | Event::Unacknowledged { .. }
+    )
 }
 
 // Takes up to `most` frames, with a tone for each that is stored, and tells what becomes of it.
@@ -35,7 +33,7 @@ pub fn take_frames<N: Driver<C = Network>, B: Driver<C = Block>, S: Driver<C = S
     ensures keeps { B.Driver.ok intake.old.store.driver → Keeps intake.old.store.next (B.Driver.state intake.old.store.driver) (B.Driver.state intake.new.store.driver) }
     ensures left { IfOk result (λ tally. B.Driver.ok intake.old.store.driver → Left (B.Driver.state intake.old.store.driver) intake.old.store.next (B.Driver.state intake.new.store.driver) intake.new.store.next tally) }
 {
-    let mut tally = Tally::new();
+    let mut tally = Tally::default();
     let mut buffer = [0u8; LONGEST_FRAME];
     for number in 0..most {
         let event = intake.take(tone, &mut buffer);

@@ -1,5 +1,5 @@
 // What became of the frames of a burst.
-#[derive(Clone, Copy)]
+#[derive(Clone, Copy, PartialEq, Eq, Debug, Default)]
 pub struct Tally {
     pub stored: usize,
     pub refused: usize,

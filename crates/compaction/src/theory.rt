@@ -1,7 +1,7 @@
 // What holds of the compaction of every list of entries, of every kind.
 ghost use Rattle.compaction.specs.Theorems.{Replays, Updates, Settles, StandsOnce, NoDefault, CountsNames, Counts};
 
-pub fn theory_stands() -> u8
+pub fn theory_stands()
     ensures replays { Replays }
     ensures updates { Updates }
     ensures settles { Settles }
@@ -9,6 +9,4 @@ pub fn theory_stands() -> u8
     ensures no_default { NoDefault }
     ensures counts_names { CountsNames }
     ensures counts { Counts }
-{
-    0
-}
+{}

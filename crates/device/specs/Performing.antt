@@ -1,5 +1,5 @@
 -- Which requests a device performs, and what its one call comes to.
-use Rattle.std.specs.Prelude.{◌≡◌, ℕ, ◌<◌, ◌≤◌, Bool, true, cond, ◌&&◌, List, length, nat_le, nat_lt}
+use Rattle.std.specs.Prelude.{◌≡◌, ℕ, ◌<◌, ◌≤◌, Bool, true, cond, ◌&&◌, List, length, nat_le, nat_lt, None, Option}
 use Rattle.model.specs.Requests.{Contents, Outcome, untouched, onto}
 use Rattle.model.specs.Rules.{Rules, greatest}
 
@@ -8,6 +8,10 @@ use Rattle.model.specs.Rules.{Rules, greatest}
 abbrev pub allowed : Rules → ℕ → ℕ → ℕ → ℕ → ℕ → ℕ → Bool
 allowed u reach level kind address size room =
     nat_le level (greatest u 0) && (u.kind kind && (nat_lt address reach && (u.takes kind size && nat_le u.longest room)))
+
+-- the kind of such a request; none where it is not allowed
+abbrev pub permitted : {A : Type 0} → Rules → (ℕ → Option A) → ℕ → ℕ → ℕ → ℕ → ℕ → ℕ → Option A
+permitted u of reach level kind address size room = cond (allowed u reach level kind address size room) (of kind) None
 
 -- the same, by its parts
 pub record Allowed (u : Rules) (reach l k a n m : ℕ) : Type 0 where

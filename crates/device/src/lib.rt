@@ -1,56 +1,32 @@
 // A device of any class, and what its devices share.
 #![tactic(auto)]
 
-ghost use Rattle.std.specs.Prelude.{◌≡◌, ℕ, true, length};
-ghost use Rattle.model.specs.Requests.{Contents, counts};
-ghost use Rattle.device.specs.Performing.{allowed, outcome, Performed, put, put_count};
+ghost use Rattle.std.specs.Prelude.{◌≡◌, length};
+ghost use Rattle.model.specs.Requests.{counts};
+ghost use Rattle.device.specs.Performing.{permitted, put, put_count};
 
-use model::Class;
+use model::{Class, Operation};
 
-pub trait Device {
-    type C: Class;
+pub mod command;
+mod device;
 
-    // How many addresses it has, from 0.
-    ghost reach: { Self → ℕ };
+pub use command::Command;
+pub use device::Device;
 
-    ghost contents: { Self → Contents };
-
-    fn reaches(&self) -> u32
-        ensures count { result ≡ reach self.now }
-        ensures held { Self.C.Class.rules.holds (reach self.now) (contents self.now) ≡ true };
-
-    // Performs a request that the class allows, and answers the length of its answer, which stands at the
-    // front of the buffer; any other request changes nothing, and answers 0.
-    fn perform(
-        &mut self,
-        level: u32,
-        kind: u8,
-        address: u32,
-        payload: &[u8],
-        answer: &mut [u8],
-    ) -> usize
-        ensures { Performed (reach self.old) answer.old (outcome Self.C.Class.rules (reach self.old) (contents self.old) level kind address payload.now (length answer.old)) (reach self.new) (contents self.new) answer.new result };
-}
-
-// Whether a device of this reach performs such a request.
-pub fn allows<C: Class>(
-    reach: u32,
-    level: u32,
-    kind: u8,
-    address: u32,
-    size: usize,
-    room: usize,
-) -> bool
-    ensures { result ≡ allowed C.Class.rules reach level kind address size room }
+// The kind of a command that a device of this reach performs, with room for the answer; none where the class excludes it.
+pub fn permitted<C: Class>(reach: u32, command: &Command<'_>, room: usize) -> Option<C::Op>
+    ensures { result ≡ permitted C.Class.rules C.Op.of reach command.now.level command.now.kind command.now.address (length command.now.payload.now) room }
 {
-    u64::from(level) <= C::greatest(0)
-        && C::has_kind(kind)
-        && address < reach
-        && C::takes(kind, size)
-        && C::answer_bytes() <= room
+    let op = C::operation(command.kind)?;
+    let fits = u64::from(command.level) <= C::greatest(0)
+        && command.address < reach
+        && op.takes(command.payload.len())
+        && C::LONGEST_ANSWER <= room;
+    fits.then_some(op)
 }
 
-// Puts an answer at the front of a buffer, and says how long it is; nothing where it does not fit.
+// Puts an answer at the front of a buffer, and says how long it is; nothing where it does not fit. That is the length 0
+// and no `None`, by a rule: a device answers the length 0 where it does nothing.
 pub fn put_answer(buffer: &mut [u8], answer: &[u8]) -> usize
     ensures buffer { buffer.new ≡ put answer.now buffer.old }
     ensures count { result ≡ put_count answer.now buffer.old }

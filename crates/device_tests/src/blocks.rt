@@ -1,7 +1,16 @@
 use block::{Block, BlockOp, Disk, LentDisk};
-use device::Device;
+use device::{Command, Device};
 use model::Class;
 use std::test::Fail;
+
+fn at(op: BlockOp, address: u32, payload: &[u8]) -> Command<'_> {
+    Command {
+        level: 0,
+        kind: u8::from(op),
+        address,
+        payload,
+    }
+}
 
 // The reach of memories below, at and over a block, and at and over 1024 of them.
 #[test]
@@ -26,33 +35,21 @@ fn reaches(rt: HostRuntime) -> Result<(), Fail> {
 fn addresses(rt: HostRuntime) -> Result<(), Fail> {
     let mut disk = Disk::new(vec![in rt.alloc(); 7u8; 2 * 512 + 9]?);
     let mut answer = [0u8; 513];
-    let written = [5u8; 512];
-    assert_eq!(rt;
-        disk.perform(0, BlockOp::Write.kind(), 1, &written, &mut answer),
-        0
-    );
-    assert_eq!(rt;
-        disk.perform(0, BlockOp::Read.kind(), 1, &[], &mut answer),
-        512
-    );
-    assert_eq!(rt; (answer[0], answer[511], answer[512]), (5, 5, 0));
-    assert_eq!(rt;
-        disk.perform(0, BlockOp::Read.kind(), 0, &[], &mut answer),
-        512
-    );
-    assert_eq!(rt; (answer[0], answer[511], answer[512]), (7, 7, 0));
-    assert_eq!(rt;
-        disk.perform(0, BlockOp::Write.kind(), 2, &written, &mut answer),
-        0
-    );
-    assert_eq!(rt;
-        disk.perform(0, BlockOp::Read.kind(), 2, &[], &mut answer),
-        0
-    );
-    assert_eq!(rt;
-        disk.perform(0, BlockOp::Read.kind(), 3, &[], &mut answer),
-        0
-    );
+    let written = at(BlockOp::Write, 1, &[5; 512]);
+    assert_eq!(rt; disk.perform(&written, &mut answer), 0);
+    for (address, byte) in [(1, 5), (0, 7)] {
+        let read = at(BlockOp::Read, address, &[]);
+        assert_eq!(rt; disk.perform(&read, &mut answer), 512);
+        assert_eq!(rt; (answer[0], answer[511], answer[512]), (byte, byte, 0));
+    }
+    let beyond = [
+        at(BlockOp::Write, 2, &[5; 512]),
+        at(BlockOp::Read, 2, &[]),
+        at(BlockOp::Read, 3, &[]),
+    ];
+    for command in beyond {
+        assert_eq!(rt; disk.perform(&command, &mut answer), 0);
+    }
     let memory = disk.into_memory();
     assert_eq!(rt;
         memory.iter().rev().take(9).copied().max(),
@@ -69,19 +66,12 @@ fn buffers(rt: HostRuntime) {
     let mut disk = LentDisk::new(&mut memory);
     let mut short = [0u8; 511];
     let mut long = [0u8; 512];
-    assert_eq!(rt;
-        disk.perform(0, BlockOp::Read.kind(), 0, &[], &mut short),
-        0
-    );
+    let read = at(BlockOp::Read, 0, &[]);
+    assert_eq!(rt; disk.perform(&read, &mut short), 0);
     assert_eq!(rt; short[0], 0);
-    assert_eq!(rt;
-        disk.perform(0, BlockOp::Write.kind(), 0, &[2u8; 512], &mut short),
-        0
-    );
-    assert_eq!(rt;
-        disk.perform(0, BlockOp::Read.kind(), 0, &[], &mut long),
-        512
-    );
+    let write = at(BlockOp::Write, 0, &[2; 512]);
+    assert_eq!(rt; disk.perform(&write, &mut short), 0);
+    assert_eq!(rt; disk.perform(&read, &mut long), 512);
     assert_eq!(rt; long[0], 1);
 }
 

@@ -1,6 +1,8 @@
-use device::Device;
+use device::{Command, Device};
 use model::Class;
-use network::{Network, NetworkOp, Wire, count_frames};
+use network::{
+    Network, NetworkOp, Survey, Wire, count_frames, frames_in, is_group, next_frame, split_frame,
+};
 use std::alloc::{AllocError, Global};
 use std::test::Fail;
 
@@ -12,8 +14,17 @@ fn arrival(heap: Global, length: u16, bytes: usize, value: u8) -> Result<Vec<u8>
     Ok(arrivals)
 }
 
+fn at(level: u32, op: NetworkOp, payload: &[u8]) -> Command<'_> {
+    Command {
+        level,
+        kind: u8::from(op),
+        address: 0,
+        payload,
+    }
+}
+
 fn receive(wire: &mut Wire, level: u32, answer: &mut [u8]) -> usize {
-    wire.perform(level, NetworkOp::Receive.kind(), 0, &[], answer)
+    wire.perform(&at(level, NetworkOp::Receive, &[]), answer)
 }
 
 // Of two frames of 14 bytes, the first to a group, level 0 takes the second and level 1 the first.
@@ -66,16 +77,46 @@ fn sending(rt: HostRuntime) -> Result<(), Fail> {
     for (bytes, sent, total) in [(13, 0, 0), (14, 1, 42), (1514, 2, 232), (1515, 2, 232)] {
         let mut answer = [0u8; 1514];
         let frame = vec![in rt.alloc(); 3u8; bytes]?;
-        assert_eq!(rt;
-            wire.perform(0, NetworkOp::Send.kind(), 0, &frame, &mut answer),
-            0
-        );
-        assert_eq!(rt;
-            wire.perform(0, NetworkOp::Counters.kind(), 0, &[], &mut answer),
-            8
-        );
+        let send = at(0, NetworkOp::Send, &frame);
+        assert_eq!(rt; wire.perform(&send, &mut answer), 0);
+        let counters = at(0, NetworkOp::Counters, &[]);
+        assert_eq!(rt; wire.perform(&counters, &mut answer), 8);
         assert_eq!(rt; (answer[0], answer[4]), (sent, total));
     }
+    Ok(())
+}
+
+// A run of arrivals, frame by frame: to a group, to one, and then the end.
+#[test]
+fn runs(rt: HostRuntime) -> Result<(), Fail> {
+    let mut arrivals = arrival(rt.alloc(), 14, 14, 1)?;
+    arrivals.extend_from_slice(&arrival(rt.alloc(), 16, 16, 2)?)?;
+    arrivals.extend_from_slice(&[0, 14, 2])?;
+    let parts = split_frame(&arrivals).map(|(frame, rest)| (frame.len(), rest.len()));
+    assert_eq!(rt; parts, Some((14, 21)));
+    assert_eq!(rt; split_frame(&arrivals[34..]).is_none(), true);
+    for (level, moved, length) in [(0, 34, Some(16)), (1, 16, Some(14))] {
+        let (far, frame) = next_frame(level, &arrivals);
+        assert_eq!(rt; (far, frame.map(|frame| frame.len())), (moved, length));
+    }
+    let seen = Survey {
+        frames: 2,
+        groups: 1,
+        used: 34,
+    };
+    assert_eq!(rt; count_frames(&arrivals), seen);
+    let lengths = [14, 16];
+    let mut groups = 0u32;
+    for (frame, length) in frames_in(&arrivals).zip(lengths) {
+        assert_eq!(rt; frame.len(), length);
+        if is_group(frame) {
+            groups = groups.saturating_add(1);
+        }
+    }
+    assert_eq!(rt; groups, 1);
+    let mut singles = frames_in(&arrivals).filter(|frame| !is_group(frame));
+    assert_eq!(rt; singles.next().map(|frame| frame.len()), Some(16));
+    assert_eq!(rt; singles.next().is_none(), true);
     Ok(())
 }
 

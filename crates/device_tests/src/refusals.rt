@@ -1,29 +1,40 @@
 use model::{Fault, Refusal};
+use std::alloc::AllocError;
 
-// Every refusal has its own number, from 1 to 13.
+// Every refusal, in the order of their numbers, with the name that it prints.
+const ALL: [(Refusal, &str); 13] = [
+    (
+        Refusal::Failed(Fault { layer: 2, place: 7 }),
+        "FAILED (2, 7)",
+    ),
+    (Refusal::Setting, "SETTING"),
+    (Refusal::Value, "VALUE"),
+    (Refusal::Name, "NAME"),
+    (Refusal::Kind, "KIND"),
+    (Refusal::Address, "ADDRESS"),
+    (Refusal::Payload, "PAYLOAD"),
+    (Refusal::Answer, "ANSWER"),
+    (Refusal::Roll, "ROLL"),
+    (Refusal::Full, "FULL"),
+    (Refusal::Room, "ROOM"),
+    (Refusal::Phase, "PHASE"),
+    (Refusal::Unfinished(3), "UNFINISHED 3"),
+];
+
+// Every refusal has its own number, from 1 to 13; a failure alone has a pair.
 #[test]
 fn numbers(rt: HostRuntime) {
-    let fault = Fault { layer: 2, place: 7 };
-    let all = [
-        Refusal::Failed(fault),
-        Refusal::Setting,
-        Refusal::Value,
-        Refusal::Name,
-        Refusal::Kind,
-        Refusal::Address,
-        Refusal::Payload,
-        Refusal::Answer,
-        Refusal::Roll,
-        Refusal::Full,
-        Refusal::Room,
-        Refusal::Phase,
-        Refusal::Unfinished(3),
-    ];
-    let mut expected = 0u32;
-    for refusal in all {
-        expected = expected.saturating_add(1);
-        assert_eq!(rt; refusal.number(), expected);
-        assert_eq!(rt; refusal.fault().is_some(), expected == 1);
+    for (number, (refusal, _)) in (1u32..).zip(ALL) {
+        assert_eq!(rt; u32::from(refusal), number);
+        assert_eq!(rt; refusal.fault().is_some(), number == 1);
     }
-    assert_eq!(rt; expected, 13);
+    assert_eq!(rt; ALL.len(), 13);
+}
+
+#[test]
+fn names(rt: HostRuntime) -> Result<(), AllocError> {
+    for (refusal, name) in ALL {
+        assert_eq!(rt; refusal.to_string(rt.alloc())?.as_str(), name);
+    }
+    Ok(())
 }

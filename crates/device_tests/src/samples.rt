@@ -1,13 +1,22 @@
-use device::Device;
+use device::{Command, Device};
 use model::Class;
 use sound::{Sound, SoundOp, Speaker};
+
+fn at(level: u32, op: SoundOp, payload: &[u8]) -> Command<'_> {
+    Command {
+        level,
+        kind: u8::from(op),
+        address: 0,
+        payload,
+    }
+}
 
 // The samples and the total that a speaker has after one payload at a level.
 fn after(level: u32, payload: &[u8]) -> [u8; 8] {
     let mut speaker = Speaker::new();
     let mut answer = [0u8; 8];
-    let _ = speaker.perform(level, SoundOp::Play.kind(), 0, payload, &mut answer);
-    let _ = speaker.perform(level, SoundOp::Counters.kind(), 0, &[], &mut answer);
+    let _ = speaker.perform(&at(level, SoundOp::Play, payload), &mut answer);
+    let _ = speaker.perform(&at(level, SoundOp::Counters, &[]), &mut answer);
     answer
 }
 

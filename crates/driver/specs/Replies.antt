@@ -10,7 +10,7 @@ use Rattle.driver.specs.States.{State, setting, membership}
 use Rattle.driver.specs.Calls.{Reply, accepted, done, lost, idle, notyet, failed, refused}
 use Rattle.driver.specs.declared.answers.Collected.{Collected}
 use Rattle.driver.specs.declared.answers.Collected.TheVariants.{Done, Lost, Idle, NotYet}
-use Rattle.driver.specs.declared.answers.Header.{Header}
+use Rattle.model.specs.declared.header.Header.{Header}
 
 -- a refusal as a reply: FAILED with its pair, any other by its number
 abbrev pub refusal : Refusal → Reply

@@ -1,12 +1,5 @@
 // What a client passes to a driver and gets back.
-
-// A request without its payload.
-#[derive(Clone, Copy, PartialEq, Eq, Debug)]
-pub struct Header {
-    pub tag: u32,
-    pub kind: u8,
-    pub address: u32,
-}
+pub use model::Header;
 
 // What collect answers where it is not refused.
 #[derive(Clone, Copy, PartialEq, Eq, Debug)]

@@ -45,6 +45,7 @@ pub trait Driver {
     fn leave(&mut self, name: u32) -> Result<(), Refusal>
         ensures { ok self.old → steps self.old (leave name) (plain result) self.new };
 
+    // A header is kept and compared, and its payload is lent for the call alone, so one struct of both would be no plainer.
     fn submit(&mut self, header: Header, payload: &[u8]) -> Result<(), Refusal>
         ensures { ok self.old → steps self.old (submit (request header payload.now)) (plain result) self.new };
 

@@ -2,6 +2,6 @@
 #![tactic(auto)]
 
 #[cfg(test)]
-mod numbers;
+mod asking;
 #[cfg(test)]
 mod refusals;

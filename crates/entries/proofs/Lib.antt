@@ -1,5 +1,5 @@
--- The lemmas behind the loops, and those that the users of a log need.
-pub mod Loops
+-- The lemmas behind the searches, and those that the users of a log need.
+pub mod Searches
 pub mod Updates
 pub mod Handing
 pub mod Handed

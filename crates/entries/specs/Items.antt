@@ -29,7 +29,7 @@ other_items k n is = filter (λ i. not (k.same i.entry.name n)) is
 abbrev pub noted : Kind → Entry → List Item → List Item
 noted k e is = other_items k e.name is ++ cond (holds_default k e) [] (fresh e ∷ [])
 
--- an item for the places that hold no entry
+-- what is read at a place that holds no item
 abbrev pub blank : Item
 blank = fresh (entry_of 0 0)
 

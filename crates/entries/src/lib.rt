@@ -1,4 +1,4 @@
-// Entries with marks, and the loops over a slice of them.
+// Entries with marks: what is looked up among them, and which of them go.
 #![tactic(auto)]
 
 pub mod item;

@@ -1,4 +1,4 @@
-// The mark of an item.
+// The mark of an item. A head of a queue has its own two lines: a wrapper with a mark round both would be no plainer.
 ghost use Rattle.entries.specs.Items.{marked};
 
 use crate::item::Item;

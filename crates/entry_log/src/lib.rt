@@ -6,7 +6,6 @@ mod log;
 mod marking;
 mod noting;
 mod reading;
-mod slices;
 
 pub use item::{Full, Item};
 pub use kinds::{EntryKind, Membership, Setting};

@@ -1,18 +1,25 @@
 // The log itself: at most 24 entries, in memory that is part of the value.
-ghost use Rattle.std.specs.Prelude.{◌≡◌, ◌≤◌, length};
-
+use arrayvec::ArrayVec;
 use entries::Item;
-use std::marker::PhantomData;
+use std::marker::{Model, PhantomData};
 
 // How many entries a log has room for.
 pub(crate) const CAPACITY: usize = 24;
 
 #[derive(Drop)]
 pub struct Log<K> {
-    // the entries, the oldest first, in the first `count` places
-    pub(crate) items: [Item; CAPACITY],
-    pub(crate) count: usize,
+    // the oldest first
+    pub(crate) items: ArrayVec<Item, CAPACITY>,
     pub(crate) kind: PhantomData<K>,
-    ghost long: { length items ≡ 24 },
-    ghost few: { count ≤ 24 },
+}
+
+impl<K> Model for Log<K> {
+    ghost use Rattle.std.specs.Prelude.{List, ◌≤◌, length};
+    ghost use Rattle.entries.specs.declared.item.Item.{Item};
+
+    ghost Value = { List Item };
+
+    ghost view = { λ l. l.items.items };
+
+    ghost invariant = { λ l. length l.items.items ≤ 24 };
 }

@@ -4,9 +4,13 @@
 ghost use Rattle.std.specs.Prelude.{◌≡◌, [], length};
 ghost use Rattle.driver.specs.Replies.{got, request, Framed};
 ghost use Rattle.exchange.specs.Exchanges.{Exchanged, Answered};
+ghost use Rattle.exchange.specs.Hearing.{Heard};
+
+pub mod silence;
 
 use driver::{Collected, Driver, Header};
 use model::{Class, Refusal};
+pub use silence::Silence;
 
 // Submits a request and collects once. The answer is the request's own where nothing waited before it.
 pub fn exchange<D: Driver>(
@@ -22,4 +26,20 @@ pub fn exchange<D: Driver>(
 {
     driver.submit(header, payload)?;
     driver.collect(buffer)
+}
+
+// Exchanges a request, and says how many bytes the answer has; they stand at the front of the buffer.
+pub fn ask<D: Driver>(
+    driver: &mut D,
+    header: Header,
+    payload: &[u8],
+    buffer: &mut [u8],
+) -> Result<usize, Silence>
+    ensures fine { D.Driver.ok driver.old → D.Driver.ok driver.new }
+    ensures heard { D.Driver.ok driver.old → Heard D.C.Class.rules D.Driver.state D.Driver.fault D.Driver.steps driver.old (request header payload.now) buffer.old buffer.new result driver.new }
+{
+    match exchange(driver, header, payload, buffer)? {
+        Collected::Done { length, .. } => Ok(length),
+        Collected::Lost { .. } | Collected::Idle | Collected::NotYet => Err(Silence::Unanswered),
+    }
 }

@@ -1,67 +1,68 @@
-// Counting calls, and what a failure does to the layer.
-ghost use Rattle.std.specs.Prelude.{◌≡◌, if◌then◌else◌, Ok, Err};
+// Which call fails, and how.
+ghost use Rattle.std.specs.Prelude.{◌≡◌, Err};
+ghost use Rattle.std.specs.Fn.{FnOnceReturnsAtMut};
 ghost use Rattle.model.specs.declared.refusal.Refusal.TheVariants.{Failed};
-ghost use Rattle.fault.specs.Plans.{turn, counted, shut, heeded, told};
+ghost use Rattle.fault.specs.Plans.{way_of, turn, counted, Fails};
 
-use crate::parts::{Door, Plan, Turn};
+use crate::parts::{Failure, Plan, Way};
 use model::{Fault, Refusal};
 
 // The number of this layer in a pair.
 pub(crate) const LAYER: u32 = 2;
 
+impl From<u32> for Way {
+    ghost from_gives = { λ number way. way ≡ way_of number };
+
+    fn from(number: u32) -> Way {
+        if number == 0 {
+            Way::Unmade
+        } else {
+            Way::Dropped
+        }
+    }
+}
+
 impl Plan {
-    // Gives a call its number, and says what is to become of it.
-    pub(crate) fn next(&mut self) -> Turn
+    // Gives a call its number, and says whether it is the one that fails.
+    pub(crate) fn next(&mut self) -> Option<Failure>
         ensures turn { result ≡ turn self.old }
         ensures after { self.new ≡ counted self.old }
     {
         if self.made == u32::MAX {
-            return Turn::Passed;
+            return None;
         }
         self.made += 1;
         if self.made != self.number {
-            return Turn::Passed;
+            return None;
         }
         let fault = Fault {
             layer: LAYER,
             place: self.number,
         };
-        if self.way == 0 {
-            Turn::Unmade(fault)
-        } else {
-            Turn::Dropped(fault)
-        }
+        Some(Failure {
+            way: self.way,
+            fault,
+        })
     }
 }
 
-impl Door {
-    // FAILED with the layer's pair while it is down.
-    pub(crate) fn check(&self) -> Result<(), Refusal>
-        ensures { result ≡ (if self.now.up then Ok tt else Err (Failed self.now.fault)) }
+impl Failure {
+    // The answer of the call that fails; where the way says so, the call is made and its own answer dropped.
+    pub(crate) fn answer<D, T: Copy, F: FnOnce(&mut D) -> Result<T, Refusal>>(
+        self,
+        below: &mut D,
+        call: F,
+    ) -> Result<T, Refusal>
+        requires { F.IsAlwaysCallable call }
+        ensures pair { result ≡ Err (Failed self.fault) }
+        ensures below { Fails (FnOnceReturnsAtMut F.FnOnce call) self.way below.old below.new }
     {
-        if self.up {
-            Ok(())
-        } else {
-            Err(Refusal::Failed(self.fault))
-        }
-    }
-
-    // Takes the layer down with this pair.
-    pub(crate) fn fail(&mut self, fault: Fault)
-        ensures { self.new ≡ shut fault }
-    {
-        self.up = false;
-        self.fault = fault;
-    }
-
-    // Takes the layer down where an answer from below is a failure.
-    pub(crate) fn heed<T>(&mut self, answer: &Result<T, Refusal>)
-        ensures { self.new ≡ heeded self.old (told answer.now) }
-    {
-        if let Err(refusal) = answer {
-            if let Some(fault) = refusal.fault() {
-                self.fail(fault);
+        match self.way {
+            Way::Unmade => {}
+            Way::Dropped => {
+                let _ = call(below);
             }
         }
+        Err(Refusal::Failed(self.fault))
     }
 }

@@ -3,72 +3,38 @@
 // as arguments, the network call of the first number fails in the way of the second.
 #![tactic(auto)]
 
-mod audit;
-mod burst;
-mod pile;
-mod records;
-
-use audit::audit;
-use burst::{Failure, Gateway, Tally};
-use network::{Survey, count_frames};
-use std::env;
+use block::BLOCK;
+use burst::{count_stored, mend, report_burst, report_speaker, report_wire, start, take_frames};
+use driver::Driver;
+use intake::Intake;
+use network::count_frames;
+use piles::{DISK_BLOCKS, TONE, disk_pile, into_disk, planned, speaker_pile, wire_pile};
 use std::io::Read;
+use store::Store;
 
 fn main(rt: HostRuntime) -> anyhow::Result<()> {
-    run(&rt)
-}
-
-fn run(rt: &HostRuntime) -> anyhow::Result<()> {
-    let failure = planned(rt)?;
+    let failure = planned(&rt)?;
     let mut arrivals = Vec::new(rt.alloc());
     rt.stdin().read_to_end(&mut arrivals)?;
     let seen = count_frames(&arrivals);
-    let mut gateway = Gateway::new(rt.alloc(), arrivals.clone()?, failure)?;
-    if !gateway.start(rt)? {
+    let mut wire = wire_pile(arrivals.clone()?, failure);
+    let mut disk = disk_pile(vec![in rt.alloc(); 0u8; DISK_BLOCKS * BLOCK]?);
+    let mut speaker = speaker_pile();
+    // the network's restart is the first call that may fail
+    let others = disk.restart().is_ok() && speaker.restart().is_ok();
+    if !start(&rt, "start", &mut wire)? || !others {
         println!(rt; "the drivers did not start")?;
         return Ok(());
     }
-    let tally = gateway.take_frames(rt, seen.frames)?;
-    report_end(rt, arrivals.len().saturating_sub(seen.used))?;
-    report_tally(rt, &seen, &tally)?;
-    gateway.report_network(rt)?;
-    gateway.report_devices(rt)?;
-    let found = audit(gateway.into_disk(), &arrivals);
+    let mut intake = Intake::new(wire, disk, speaker);
+    let tally = take_frames(&rt, &mut intake, &TONE, seen.frames)?;
+    report_burst(&rt, arrivals.len(), seen, tally)?;
+    let (mut wire, store, mut speaker) = intake.into_parts();
+    mend(&rt, &mut wire)?;
+    report_wire(&rt, &mut wire)?;
+    println!(rt; "blocks used: {} of {DISK_BLOCKS}", store.used())?;
+    report_speaker(&rt, &mut speaker)?;
+    let found = count_stored(&arrivals, &mut Store::new(into_disk(store.into_driver())));
     println!(rt; "frames found on the disk without its drivers: {found}")?;
-    Ok(())
-}
-
-// The planned failure: none, or the call and the way that the arguments say.
-fn planned(rt: &HostRuntime) -> anyhow::Result<Failure> {
-    let mut words = env::args(rt)?;
-    let _ = words.next();
-    let number = match words.next() {
-        Some(word) => word.as_str().parse::<u32>()?,
-        None => 0,
-    };
-    let way = match words.next() {
-        Some(word) => word.as_str().parse::<u32>()?,
-        None => 0,
-    };
-    Ok(Failure { number, way })
-}
-
-fn report_end(rt: &impl Print, left: usize) -> anyhow::Result<()> {
-    if left == 0 {
-        println!(rt; "arrivals: all bytes are whole frames")?;
-    } else {
-        println!(rt; "arrivals: the last {left} bytes are no whole frame")?;
-    }
-    Ok(())
-}
-
-fn report_tally(rt: &impl Print, seen: &Survey, tally: &Tally) -> anyhow::Result<()> {
-    let frames = seen.frames;
-    let groups = seen.groups;
-    let stored = tally.stored;
-    let refused = tally.refused;
-    let bytes = tally.bytes;
-    println!(rt; "frames arrived: {frames}, group frames among them: {groups}")?;
-    println!(rt; "frames stored: {stored}, not stored: {refused}, bytes stored: {bytes}")?;
     Ok(())
 }

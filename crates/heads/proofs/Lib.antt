@@ -1,3 +1,2 @@
 -- Lemmas about heads and bytes.
 pub mod Laid
-pub mod Steps

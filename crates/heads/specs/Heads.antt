@@ -8,4 +8,4 @@ total hs = sum_by (λ h. h.size) hs
 
 -- a head with another mark
 abbrev pub remark : Bool → Head → Head
-remark m h = record { tag = h.tag; kind = h.kind; address = h.address; size = h.size; handed = m }
+remark m h = record { header = h.header; size = h.size; handed = m }

@@ -1,6 +1,7 @@
 -- What a queue keeps: requests with their marks, and what the calls make of a list of them.
 use Rattle.std.specs.Prelude.{ℕ, zero, suc, ◌+◌, Bool, true, false, cond, List, [], ◌∷◌, length, Ok, Err, sum_by, Result, nat_le, nat_lt}
 use Rattle.model.specs.Requests.{Request}
+use Rattle.model.specs.declared.header.Header.{Header}
 use Rattle.model.specs.declared.refusal.Refusal.{Refusal}
 use Rattle.model.specs.declared.refusal.Refusal.TheVariants.{Full, Room}
 use Rattle.heads.specs.Limits.{most, capacity}
@@ -11,9 +12,16 @@ pub record Kept : Type 0 where
   pub request : Request
   pub handed : Bool
 
+-- a header and a payload as a request, and its header again
+abbrev pub request_of : Header → List ℕ → Request
+request_of h p = record { tag = h.tag; kind = h.kind; address = h.address; payload = p }
+
+abbrev pub header_of : Request → Header
+header_of q = record { tag = q.tag; kind = q.kind; address = q.address }
+
 -- a request as it is added: not handed on yet
-abbrev pub fresh : ℕ → ℕ → ℕ → List ℕ → Kept
-fresh t k a p = record { request = record { tag = t; kind = k; address = a; payload = p }; handed = false }
+abbrev pub fresh : Header → List ℕ → Kept
+fresh h p = record { request = request_of h p; handed = false }
 
 -- the same request with another mark
 abbrev pub marked : Bool → Kept → Kept
@@ -21,7 +29,7 @@ marked m k = record { request = k.request; handed = m }
 
 -- what a caller is told of a request: all but the bytes of its payload
 abbrev pub head_of : Kept → Head
-head_of k = record { tag = k.request.tag; kind = k.request.kind; address = k.request.address; size = length k.request.payload; handed = k.handed }
+head_of k = record { header = header_of k.request; size = length k.request.payload; handed = k.handed }
 
 -- its payload
 abbrev pub payload_of : Kept → List ℕ

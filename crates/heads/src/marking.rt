@@ -1,4 +1,4 @@
-// The mark of a head.
+// The mark of a head. An item of a log has its own two lines: a wrapper with a mark round both would be no plainer.
 ghost use Rattle.heads.specs.Heads.{remark};
 
 use crate::head::Head;

@@ -1,1 +1,2 @@
 mod Arriving
+mod Asking

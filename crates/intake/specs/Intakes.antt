@@ -5,7 +5,7 @@ use Rattle.driver.specs.States.{State}
 use Rattle.driver.specs.Calls.{Call, Reply}
 use Rattle.archive.specs.Stores.{Saved}
 use Rattle.archive.specs.declared.archive.StoreError.{StoreError}
-use Rattle.intake.specs.declared.event.Silence.{Silence}
+use Rattle.exchange.specs.declared.silence.Silence.{Silence}
 use Rattle.intake.specs.declared.event.Event.{Event}
 use Rattle.intake.specs.declared.event.Event.TheVariants.{Ended, Silent, NotStored, Stored, Unacknowledged}
 use Rattle.intake.specs.Announcing.{Announced}

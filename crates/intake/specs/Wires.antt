@@ -7,22 +7,14 @@ use Rattle.model.specs.declared.refusal.Refusal.{Refusal}
 use Rattle.driver.specs.Calls.{Call, Reply}
 use Rattle.driver.specs.Replies.{got, Framed}
 use Rattle.driver.specs.declared.answers.Collected.{Collected}
-use Rattle.driver.specs.declared.answers.Collected.TheVariants.{Done, Lost, Idle, NotYet}
 use Rattle.exchange.specs.Exchanges.{Exchanged}
+use Rattle.exchange.specs.Hearing.{heard_of}
+use Rattle.exchange.specs.declared.silence.Silence.{Silence}
+use Rattle.exchange.specs.declared.silence.Silence.TheVariants.{Unanswered}
 use Rattle.reply.specs.Replies.{reply_to}
 use Rattle.network.specs.Networks.{kind_of}
 use Rattle.network.specs.declared.op.NetworkOp.{NetworkOp}
-use Rattle.driver.specs.declared.answers.Header.{Header}
-use Rattle.intake.specs.declared.event.Silence.{Silence}
-use Rattle.intake.specs.declared.event.Silence.TheVariants.{Refused, Unanswered}
-
--- an answer of the wire: how many bytes it has, or why there is none
-abbrev pub heard_of : Result Collected Refusal → Result ℕ Silence
-heard_of (Ok (Done tag n)) = Ok n
-heard_of (Ok (Lost tag)) = Err Unanswered
-heard_of (Ok Idle) = Err Unanswered
-heard_of (Ok NotYet) = Err Unanswered
-heard_of (Err x) = Err (Refused x)
+use Rattle.model.specs.declared.header.Header.{Header}
 
 -- the first bytes of a buffer, if there are that many, and any
 abbrev pub front : List ℕ → ℕ → Option (Bor (List ℕ)) → Type 0

@@ -1,17 +1,9 @@
 // What becomes of frames.
 use archive::StoreError;
-use model::Refusal;
+pub use exchange::Silence;
 
-// Why the wire gave no answer.
-#[derive(Clone, Copy)]
-pub enum Silence {
-    Refused(Refusal),
-    // a request was lost, or still waits
-    Unanswered,
-}
-
-// What became of the next frame.
-#[derive(Clone, Copy)]
+// What became of the next frame: five ends, each with what the caller tells of it, so neither an Option nor a Result.
+#[derive(Clone, Copy, PartialEq, Eq, Debug)]
 pub enum Event {
     // no frame arrives any more
     Ended,

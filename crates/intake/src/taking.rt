@@ -11,11 +11,9 @@ use archive::Store;
 use block::Block;
 use driver::{Driver, Header};
 use exchange::exchange;
+use model::Class;
 use network::Network;
 use sound::{Sound, SoundOp};
-
-// The longest answer of a speaker.
-const ANSWER: usize = 8;
 
 // Plays a tone; what the speaker answers does not matter.
 fn announce<S: Driver<C = Sound>>(speaker: &mut S, tone: &[u8])
@@ -24,10 +22,10 @@ fn announce<S: Driver<C = Sound>>(speaker: &mut S, tone: &[u8])
 {
     let header = Header {
         tag: 0,
-        kind: SoundOp::Play.kind(),
+        kind: u8::from(SoundOp::Play),
         address: 0,
     };
-    let mut answer = [0u8; ANSWER];
+    let mut answer = [0u8; Sound::LONGEST_ANSWER];
     let _ = exchange(speaker, header, tone, &mut answer);
 }
 

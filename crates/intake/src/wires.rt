@@ -1,37 +1,19 @@
 // Frames on the wire.
 ghost use Rattle.std.specs.Prelude.{◌≡◌};
-ghost use Rattle.intake.specs.Wires.{heard_of, front, header_of, Received, Acknowledged};
+ghost use Rattle.intake.specs.Wires.{front, header_of, Received, Acknowledged};
 
-use crate::event::Silence;
-use driver::{Collected, Driver, Header};
-use exchange::exchange;
-use model::Refusal;
+use driver::{Driver, Header};
+use exchange::{Silence, ask};
 use network::{Network, NetworkOp};
 use reply::acknowledgement;
+use store::LONGEST_FRAME;
 
-pub(crate) const LONGEST: usize = 1514;
-
-// How many bytes the wire answered with, or why none.
-fn heard(answer: Result<Collected, Refusal>) -> Result<usize, Silence>
-    ensures { result ≡ heard_of answer }
-{
-    match answer {
-        Ok(Collected::Done { length, .. }) => Ok(length),
-        Ok(Collected::Lost { .. }) | Ok(Collected::Idle) | Ok(Collected::NotYet) => {
-            Err(Silence::Unanswered)
-        }
-        Err(refusal) => Err(Silence::Refused(refusal)),
-    }
-}
-
-// The first bytes of a buffer; none where there are none.
+// The first bytes of a buffer; none where there are none. A length beside a buffer, by a rule: a driver writes into the
+// caller's buffer and answers a length.
 pub(crate) fn arrived(buffer: &[u8], size: usize) -> Option<&[u8]>
     ensures { front buffer.now size result }
 {
-    if size == 0 {
-        return None;
-    }
-    buffer.get(0..size)
+    if size == 0 { None } else { buffer.get(..size) }
 }
 
 fn header(op: NetworkOp) -> Header
@@ -39,7 +21,7 @@ fn header(op: NetworkOp) -> Header
 {
     Header {
         tag: 0,
-        kind: op.kind(),
+        kind: u8::from(op),
         address: 0,
     }
 }
@@ -52,7 +34,7 @@ pub(crate) fn receive<N: Driver<C = Network>>(
     ensures fine { N.Driver.ok wire.old → N.Driver.ok wire.new }
     ensures calls { N.Driver.ok wire.old → Received N.Driver.steps wire.old buffer.old buffer.new result wire.new }
 {
-    heard(exchange(wire, header(NetworkOp::Receive), &[], buffer))
+    ask(wire, header(NetworkOp::Receive), &[], buffer)
 }
 
 // Gives the acknowledgement of a frame to the wire.
@@ -60,10 +42,8 @@ pub(crate) fn acknowledge<N: Driver<C = Network>>(wire: &mut N, frame: &[u8]) ->
     ensures fine { N.Driver.ok wire.old → N.Driver.ok wire.new }
     ensures calls { N.Driver.ok wire.old → Acknowledged N.Driver.steps wire.old frame.now result wire.new }
 {
-    let Some(reply) = acknowledgement(frame) else {
-        return Err(Silence::Unanswered);
-    };
-    let mut answer = [0u8; LONGEST];
-    heard(exchange(wire, header(NetworkOp::Send), &reply, &mut answer))?;
+    let reply = acknowledgement(frame).ok_or(Silence::Unanswered)?;
+    let mut answer = [0u8; LONGEST_FRAME];
+    ask(wire, header(NetworkOp::Send), &reply, &mut answer)?;
     Ok(())
 }

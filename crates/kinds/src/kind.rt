@@ -6,7 +6,8 @@ pub trait EntryKind {
     // Which names are the same, and what content each has by default.
     ghost kind: { Kind };
 
-    // Whether two names are the same.
+    // Whether two names are the same. It is written in each kind: a trait of its own for the kinds
+    // whose names are numbers would be longer than the one line that they share.
     fn is_same(a: u64, b: u64) -> bool
         ensures { result ≡ kind.same a b };
 

@@ -23,6 +23,8 @@ pub trait Marked {
 pub fn first_unhanded<T: Marked>(xs: &[T]) -> Option<usize>
     ensures { result ≡ firstFrom T.handed 0 xs.now }
 {
+    // a rule of the project: loops over the entries with their index find the first unhanded one,
+    // and later entries of a name
     for (i, x) in xs.iter().enumerate() {
         if !x.is_handed() {
             return Some(i);
@@ -35,20 +37,14 @@ pub fn first_unhanded<T: Marked>(xs: &[T]) -> Option<usize>
 pub fn unhanded<T: Marked>(xs: &[T]) -> usize
     ensures { result ≡ count_by (λ x. not (T.handed x)) xs.now }
 {
-    let mut n = 0;
-    for x in xs {
-        if !x.is_handed() {
-            n += 1;
-        }
-    }
-    n
+    xs.iter().filter(|x| !x.is_handed()).count()
 }
 
 // Takes every mark away.
 pub fn unhand_all<T: Marked>(xs: &mut [T])
     ensures { xs.new ≡ map (T.remarked false) xs.old }
 {
-    for x in xs.iter_mut() {
+    for x in xs {
         x.mark(false);
     }
 }

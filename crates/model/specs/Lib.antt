@@ -1,3 +1,4 @@
+pub mod Kinds
 pub mod Requests
 pub mod Rules
 pub mod Refusals

@@ -1,5 +1,5 @@
 -- What a class of devices fixes, the bounds that every class keeps, and the law of a class.
-use Rattle.std.specs.Prelude.{◌≡◌, ℕ, ◌-◌, ◌^◌, ◌<◌, ◌≤◌, Bool, true, ◌&&◌, List, ◌++◌, length, replicate, nat_le, nat_lt, slice_index_or}
+use Rattle.std.specs.Prelude.{◌≡◌, ℕ, ◌^◌, ◌<◌, ◌≤◌, Bool, true, ◌&&◌, List, length, nat_le, nat_lt, slice_index_or}
 use Rattle.model.specs.Requests.{Contents, Outcome}
 use Rattle.model.specs.declared.setting.SettingRange.{SettingRange}
 
@@ -31,10 +31,6 @@ between first last n = nat_le first n && nat_le n last
 -- the row of a key that a class does not have
 abbrev pub no_range : SettingRange
 no_range = record { initial = 0; greatest = 0 }
-
--- the settings as a table of three rows
-abbrev pub padded : List SettingRange → List SettingRange
-padded xs = xs ++ replicate (3 - length xs) no_range
 
 -- whether a class has a setting of this key
 abbrev pub has_setting : Rules → ℕ → Bool

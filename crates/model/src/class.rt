@@ -1,14 +1,20 @@
 // A class of devices.
-ghost use Rattle.std.specs.Prelude.{◌≡◌, length};
-ghost use Rattle.model.specs.Rules.{Rules, Bounds, padded, Repeatable, has_setting, range_of, initial, greatest};
+ghost use Rattle.std.specs.Prelude.{◌≡◌, ℕ, slice_get, is_some};
+ghost use Rattle.model.specs.Kinds.{takes_of, declared_of};
+ghost use Rattle.model.specs.Rules.{Rules, Bounds, Repeatable, between, has_setting, initial, greatest};
 
+use crate::kind::Operation;
 use crate::setting::SettingRange;
 
-pub trait Class {
-    // How many settings there are, and their ranges by key from 0; the rows past the last are zeros.
-    const SETTING_COUNT: usize;
+// No class has a longer answer, in bytes.
+pub const ANSWER_LIMIT: usize = 1514;
 
-    const SETTINGS: [SettingRange; 3];
+pub trait Class {
+    // The kinds of its requests.
+    type Op: Operation;
+
+    // The settings, by key from 0.
+    const SETTINGS: &'static [SettingRange];
     // The first and the last name of the roll.
     const FIRST_NAME: u32;
 
@@ -18,66 +24,92 @@ pub trait Class {
     // The longest answer, in bytes.
     const LONGEST_ANSWER: usize;
 
+    ghost FIRST_NAME: { ℕ };
+
+    ghost LAST_NAME: { ℕ };
+
+    ghost ROLL_LIMIT: { ℕ };
+
+    ghost LONGEST_ANSWER: { ℕ };
+
     ghost rules: { Rules };
 
-    fn key_count() -> usize
-        ensures { result ≡ length rules.settings };
+    // The same, with its promise: a constant that lends has none.
+    fn setting_rows() -> &'static [SettingRange]
+        ensures { result.now ≡ rules.settings };
 
-    fn setting_rows() -> [SettingRange; 3]
-        ensures { result ≡ padded rules.settings };
-
-    fn has_name(name: u32) -> bool
-        ensures { result ≡ rules.name name };
-
-    fn most_joined() -> usize
-        ensures { result ≡ rules.limit };
-
-    fn answer_bytes() -> usize
-        ensures { result ≡ rules.longest };
-
-    fn has_kind(kind: u8) -> bool
-        ensures { result ≡ rules.kind kind };
-
-    fn takes(kind: u8, size: usize) -> bool
-        ensures { result ≡ rules.takes kind size };
-
-    fn is_declared(kind: u8) -> bool
-        ensures { result ≡ rules.declared kind };
+    // The row of a key, if there is one.
+    fn range(key: u64) -> Option<SettingRange>
+        ensures { result ≡ slice_get rules.settings key }
+    {
+        Self::setting_rows().get(key as usize).copied()
+    }
 
     fn has_setting(key: u64) -> bool
         ensures { result ≡ has_setting rules key }
     {
-        (key as usize) < Self::key_count()
+        (key as usize) < Self::setting_rows().len()
     }
 
-    // The row of a key, and one of zeros where there is none.
-    fn range(key: u64) -> SettingRange
-        ensures { result ≡ range_of rules key }
-    {
-        match Self::setting_rows().get(key as usize) {
-            Some(range) => *range,
-            None => SettingRange {
-                initial: 0,
-                greatest: 0,
-            },
-        }
-    }
-
-    // What a setting holds at first, and 0 where there is none.
+    // What a setting holds at first, and 0 where there is none: it cannot fail, and `range` stands beside it.
     fn initial(key: u64) -> u64
         ensures { result ≡ initial rules key }
     {
-        u64::from(Self::range(key).initial)
+        Self::range(key).map_or(0, |range| u64::from(range.initial))
     }
 
-    // The greatest value of a setting, and 0 where there is none.
+    // The greatest value of a setting, and 0 where there is none: it cannot fail, and `range` stands beside it.
     fn greatest(key: u64) -> u64
         ensures { result ≡ greatest rules key }
     {
-        u64::from(Self::range(key).greatest)
+        Self::range(key).map_or(0, |range| u64::from(range.greatest))
+    }
+
+    fn has_name(name: u32) -> bool
+        ensures { result ≡ rules.name name }
+    {
+        Self::FIRST_NAME <= name && name <= Self::LAST_NAME
+    }
+
+    // The kind that a number stands for, if there is one.
+    fn operation(kind: u8) -> Option<Self::Op>
+        ensures { result ≡ Self.Op.of kind }
+    {
+        Self::Op::try_from(kind).ok()
+    }
+
+    fn has_kind(kind: u8) -> bool
+        ensures { result ≡ rules.kind kind }
+    {
+        Self::operation(kind).is_some()
+    }
+
+    fn takes(kind: u8, size: usize) -> bool
+        ensures { result ≡ rules.takes kind size }
+    {
+        Self::operation(kind).is_some_and(|op| op.takes(size))
+    }
+
+    fn is_declared(kind: u8) -> bool
+        ensures { result ≡ rules.declared kind }
+    {
+        Self::operation(kind).is_some_and(|op| op.is_declared())
     }
 
     ghost bounds: { Bounds rules };
 
     ghost repeatable: { Repeatable rules };
+
+    // Its constants and its kinds are those of the rules.
+    ghost limited: { ROLL_LIMIT ≡ rules.limit };
+
+    ghost answered: { LONGEST_ANSWER ≡ rules.longest };
+
+    ghost named: { (n : ℕ) → rules.name n ≡ between FIRST_NAME LAST_NAME n };
+
+    ghost kinds: { (k : ℕ) → rules.kind k ≡ is_some (Self.Op.of k) };
+
+    ghost lengths: { (k n : ℕ) → rules.takes k n ≡ takes_of Self.Op.takes (Self.Op.of k) n };
+
+    ghost declares: { (k : ℕ) → rules.declared k ≡ declared_of Self.Op.declared (Self.Op.of k) };
 }

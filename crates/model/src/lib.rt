@@ -3,9 +3,13 @@
 
 mod class;
 mod codes;
+pub mod header;
+pub mod kind;
 pub mod refusal;
 pub mod setting;
 
-pub use class::Class;
+pub use class::{ANSWER_LIMIT, Class};
+pub use header::Header;
+pub use kind::{Operation, UnknownKind};
 pub use refusal::{Fault, Refusal};
 pub use setting::SettingRange;

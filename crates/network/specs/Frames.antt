@@ -1,2 +1,3 @@
 -- The frames of the arrivals, as `arrivals` has them.
-pub use Rattle.arrivals.specs.Frames.{Found, ended, usable, passes, arrival, seek, next_frame}
+pub use Rattle.arrivals.specs.Frames.{Found, ended, usable, split, to_group, passes, arrival, seek, next_frame}
+pub use Rattle.arrivals.specs.Runs.{frames_from, frames_of, taken, frames_left}

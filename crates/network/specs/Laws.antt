@@ -2,6 +2,7 @@
 use Rattle.std.specs.Prelude.{◌≡◌, ℕ, true, List, Some, None, Option, refl}
 use Rattle.std.proofs.Common.{arith}
 use Rattle.std.proofs.lemmas.Bool.{and_parts, leb-true, false≢true}
+use Rattle.model.specs.Kinds.{declared_of}
 use Rattle.model.specs.Requests.{Contents}
 use Rattle.model.specs.Rules.{Bounds, Repeatable}
 use Rattle.model.proofs.Rows.{row_in_range}
@@ -9,7 +10,7 @@ use Rattle.network.specs.declared.op.NetworkOp.{NetworkOp}
 use Rattle.network.specs.declared.op.NetworkOp.TheVariants.{Send, Receive, Counters}
 use Rattle.network.specs.Networks.{network_rules, network_settings, declared, act, op_of}
 
-act_again : (o : Option NetworkOp) (x : Contents) (level again : ℕ) (payload : List ℕ) → declared o ≡ true
+act_again : (o : Option NetworkOp) (x : Contents) (level again : ℕ) (payload : List ℕ) → declared_of declared o ≡ true
     → act o (act o x level payload).contents again payload ≡ act o x again payload
 act_again None x level again payload d = refl
 act_again (Some Send) x level again payload d = absurd (false≢true d)

@@ -1,6 +1,7 @@
 -- The network class: what its requests do to a place in the arrivals and to the counters of what was sent.
 use Rattle.std.specs.Prelude.{ℕ, ◌+◌, ◌%◌, ◌^◌, Bool, true, false, cond, ◌&&◌, List, [], ◌∷◌, length, drop, is_some, Some, None, sum, Option, ◌==◌, nat_le, slice_index}
 use Rattle.model.specs.Requests.{Contents, Outcome, untouched, counts}
+use Rattle.model.specs.Kinds.{takes_of, declared_of}
 use Rattle.model.specs.Rules.{Rules, between}
 use Rattle.model.specs.declared.setting.SettingRange.{SettingRange}
 use Rattle.network.specs.declared.op.NetworkOp.{NetworkOp}
@@ -18,18 +19,16 @@ abbrev pub op_of : ℕ → Option NetworkOp
 op_of k = cond (k == 1) (Some Send) (cond (k == 2) (Some Receive) (cond (k == 3) (Some Counters) None))
 
 -- the payload lengths of each kind: a frame, or nothing
-abbrev pub takes : Option NetworkOp → ℕ → Bool
-takes None n = false
-takes (Some Send) n = nat_le 14 n && nat_le n 1514
-takes (Some Receive) n = n == 0
-takes (Some Counters) n = n == 0
+abbrev pub takes : NetworkOp → ℕ → Bool
+takes Send n = nat_le 14 n && nat_le n 1514
+takes Receive n = n == 0
+takes Counters n = n == 0
 
 -- only the counters can be asked for twice to the same effect
-abbrev pub declared : Option NetworkOp → Bool
-declared None = false
-declared (Some Send) = false
-declared (Some Receive) = false
-declared (Some Counters) = true
+abbrev pub declared : NetworkOp → Bool
+declared Send = false
+declared Receive = false
+declared Counters = true
 
 -- a place in the arrivals, n frames sent, and t the sum of all bytes sent
 abbrev pub network_of : ℕ → ℕ → ℕ → List ℕ → Contents
@@ -68,8 +67,8 @@ network_rules = record {
   limit = 24;
   longest = 1514;
   kind = λ k. is_some (op_of k);
-  takes = λ k n. takes (op_of k) n;
-  declared = λ k. declared (op_of k);
+  takes = λ k n. takes_of takes (op_of k) n;
+  declared = λ k. declared_of declared (op_of k);
   holds = λ reach x. (reach == 1) && (length x.counters == 3 && nat_le (place_in x) (length x.memory));
   perform = λ x level k a payload. act (op_of k) x level payload;
 }

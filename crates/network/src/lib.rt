@@ -7,7 +7,10 @@ mod receiving;
 mod sending;
 mod wire;
 
-pub use arrivals::{Survey, count_frames, next_frame};
+pub use arrivals::{
+    Frames, LONGEST_FRAME, SHORTEST_FRAME, Survey, count_frames, frames_in, is_group, next_frame,
+    split_frame,
+};
 pub use class::Network;
 pub use op::NetworkOp;
 pub use wire::Wire;

@@ -8,7 +8,7 @@ use crate::op::NetworkOp;
 use crate::sending::add_bytes;
 use crate::wire::Wire;
 use arrivals::next_frame;
-use device::{Device, allows, put_answer, put_counters};
+use device::{Command, Device, permitted, put_answer, put_counters};
 
 impl Wire {
     // A wire with these bytes still to arrive.
@@ -35,27 +35,16 @@ impl Device for Wire {
         1
     }
 
-    fn perform(
-        &mut self,
-        level: u32,
-        kind: u8,
-        address: u32,
-        payload: &[u8],
-        answer: &mut [u8],
-    ) -> usize {
-        if !allows::<Network>(1, level, kind, address, payload.len(), answer.len()) {
-            return 0;
-        }
-        match NetworkOp::from_kind(kind) {
+    fn perform(&mut self, command: &Command<'_>, answer: &mut [u8]) -> usize {
+        match permitted::<Network>(self.reaches(), command, answer.len()) {
             Some(NetworkOp::Send) => {
                 self.sent = self.sent.wrapping_add(1);
-                self.total = add_bytes(self.total, payload);
+                self.total = add_bytes(self.total, command.payload);
                 0
             }
             Some(NetworkOp::Receive) => {
-                let arrivals = self.arrivals.as_slice();
-                let (moved, frame) = next_frame(level, &arrivals[self.place..]);
-                let count = put_answer(answer, frame);
+                let (moved, frame) = next_frame(command.level, &self.arrivals[self.place..]);
+                let count = put_answer(answer, frame.unwrap_or_default());
                 self.place += moved;
                 count
             }

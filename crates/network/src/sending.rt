@@ -6,9 +6,5 @@ pub(crate) fn add_bytes(from: u32, bytes: &[u8]) -> u32
     requires { length bytes.now ≤ 1514 }
     ensures { result ≡ (from + sum bytes.now) % 2 ^ 32 }
 {
-    let mut more: u32 = 0;
-    for b in bytes {
-        more += u32::from(*b);
-    }
-    from.wrapping_add(more)
+    from.wrapping_add(bytes.iter().map(|b| u32::from(*b)).sum::<u32>())
 }

@@ -1,2 +1,2 @@
 -- Lemmas that the proofs of several functions share.
-pub mod Whole
+pub mod Bytes

@@ -1,9 +1,16 @@
--- How a queue's memory says what it keeps.
-use Rattle.std.specs.Prelude.{List, take, drop}
+-- How a queue's memory says what it keeps, and what always holds of it.
+use Rattle.std.specs.Prelude.{◌≡◌, ◌≤◌, List, length}
+use Rattle.heads.specs.Limits.{capacity}
+use Rattle.heads.specs.Heads.{total}
 use Rattle.heads.specs.Kept.{Kept}
-pub use Rattle.heads.specs.Laid.{laid}
-use Rattle.queue.specs.declared.queue.Queue.{Queue}
+use Rattle.heads.specs.Laid.{laid}
+use Rattle.queue.specs.declared.queue.Queue.TheInside.{Inside}
 
--- what a queue keeps, the oldest first
-unfoldable pub kept : Queue → List Kept
-kept q = laid (take q.count q.heads) (drop q.start q.store)
+-- the requests, the oldest first
+abbrev pub requests : Inside → List Kept
+requests q = laid q.heads.items q.payloads
+
+-- the heads account for all bytes of the payloads, which are not too many
+pub record Whole (q : Inside) : Type 0 where
+  pub small : length q.payloads ≤ capacity
+  pub sizes : total q.heads.items ≡ length q.payloads

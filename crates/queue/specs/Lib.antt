@@ -1,5 +1,3 @@
 -- What the contracts of the queue cite.
 pub mod Kept
 pub mod Layout
-pub mod Heads
-pub mod Limits

@@ -1,30 +1,24 @@
-// Requests are removed; no payload byte moves.
+// Requests are removed.
 ghost use Rattle.std.specs.Prelude.{◌≡◌, [], drop};
-ghost use Rattle.queue.specs.Layout.{kept};
 
 use crate::queue::Queue;
 
 impl Queue {
     // Removes the oldest request; where there is none nothing happens.
+    #[tactic(auto, using(heads::proofs::Laid::total_oldest, heads::proofs::Laid::laid_oldest))]
     pub fn pop(&mut self)
-        ensures { kept self.new ≡ drop 1 (kept self.old) }
+        ensures { self.new ≡ drop 1 self.old }
     {
-        if self.count == 0 {
-            return;
+        if let Some(oldest) = self.heads.pop_at(0) {
+            self.payloads.skip(oldest.size);
         }
-        let size = self.heads[0].size;
-        self.heads.rotate_left(1);
-        self.count -= 1;
-        self.start += size;
-        self.used -= size;
     }
 
     // Removes every request.
     pub fn clear(&mut self)
-        ensures { kept self.new ≡ [] }
+        ensures { self.new ≡ [] }
     {
-        self.count = 0;
-        self.start = 0;
-        self.used = 0;
+        self.heads.clear();
+        self.payloads.clear();
     }
 }

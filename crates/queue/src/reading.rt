@@ -5,55 +5,52 @@ ghost use Rattle.std.specs.Option.{option_map};
 ghost use Rattle.heads.specs.Limits.{most, capacity};
 ghost use Rattle.heads.specs.Heads.{total};
 ghost use Rattle.heads.specs.Kept.{head_of, payload_of, weight};
-ghost use Rattle.queue.specs.Layout.{kept};
 
 use crate::queue::Queue;
 use heads::Head;
 
 impl Queue {
     // How many requests are kept.
+    #[tactic(auto, using(heads::proofs::Laid::length_laid))]
     pub fn len(&self) -> usize
-        ensures value { result ≡ length (kept self.now) }
+        ensures value { result ≡ length self.now }
         ensures bound { result ≤ most }
     {
-        self.count
+        self.heads.len()
     }
 
     // How many bytes their payloads have, in all.
+    #[tactic(auto, using(heads::proofs::Laid::weight_laid))]
     pub fn used(&self) -> usize
-        ensures value { result ≡ weight (kept self.now) }
+        ensures value { result ≡ weight self.now }
         ensures bound { result ≤ capacity }
     {
-        self.used
+        self.payloads.len()
     }
 
     // The oldest request, but its payload.
     pub fn front(&self) -> Option<Head>
-        ensures { result ≡ option_map head_of (slice_get (kept self.now) 0) }
+        ensures { result ≡ option_map head_of (slice_get self.now 0) }
     {
         self.request(0)
     }
 
     // The i-th request, but its payload; past the last there is none.
+    #[tactic(auto, using(heads::proofs::Laid::head_at, std::proofs::lemmas::Option::gets))]
     pub fn request(&self, i: usize) -> Option<Head>
-        ensures { result ≡ option_map head_of (slice_get (kept self.now) i) }
+        ensures { result ≡ option_map head_of (slice_get self.now i) }
     {
-        if i < self.len() {
-            Some(self.heads[i])
-        } else {
-            None
-        }
+        self.heads.get(i).copied()
     }
 
     // The payload of the i-th request; past the last there is none.
+    #[tactic(auto, using(heads::proofs::Laid::payload_at, std::proofs::lemmas::Option::gets))]
     pub fn payload(&self, i: usize) -> Option<&[u8]>
-        ensures { option_map (λ x. x.now) result ≡ option_map payload_of (slice_get (kept self.now) i) }
+        ensures { option_map (λ x. x.now) result ≡ option_map payload_of (slice_get self.now i) }
     {
-        if i >= self.len() {
-            return None;
-        }
-        let at = self.start + total_size(&self.heads[0..i]);
-        Some(&self.store[at..at + self.heads[i].size])
+        let head = self.heads.get(i)?;
+        let before = total_size(&self.heads[..i]);
+        Some(self.payloads.part(before, head.size))
     }
 }
 
@@ -62,9 +59,5 @@ fn total_size(heads: &[Head]) -> usize
     requires { total heads.now ≤ capacity }
     ensures { result ≡ total heads.now }
 {
-    let mut sum = 0;
-    for head in heads {
-        sum += head.size;
-    }
-    sum
+    heads.iter().map(|head| head.size).sum()
 }

@@ -1,13 +1,18 @@
 // Marks stay with their requests.
+use crate::plain::header;
 use queue::{Head, Queue};
 use std::test::*;
 
 #[test]
 fn through_pop(rt: HostRuntime) -> Result<(), Fail> {
     let mut q = Queue::new();
-    assert_eq!(rt; q.push(1, 0, 10, b"one"), Ok(()));
-    assert_eq!(rt; q.push(2, 1, 20, b""), Ok(()));
-    assert_eq!(rt; q.push(1, 2, 30, b"three"), Ok(()), "a tag may come again");
+    assert_eq!(rt; q.push(header(1, 0, 10), b"one"), Ok(()));
+    assert_eq!(rt; q.push(header(2, 1, 20), b""), Ok(()));
+    assert_eq!(rt;
+        q.push(header(1, 2, 30), b"three"),
+        Ok(()),
+        "a tag may come again"
+    );
     assert_eq!(rt; q.first_unhanded(), Some(0));
     q.hand(0);
     q.hand(2);
@@ -15,9 +20,7 @@ fn through_pop(rt: HostRuntime) -> Result<(), Fail> {
     assert_eq!(rt; q.unhanded(), 1);
     q.pop();
     let second = Head {
-        tag: 2,
-        kind: 1,
-        address: 20,
+        header: header(2, 1, 20),
         size: 0,
         handed: false,
     };
@@ -25,9 +28,7 @@ fn through_pop(rt: HostRuntime) -> Result<(), Fail> {
     assert_eq!(rt; q.first_unhanded(), Some(0));
     q.pop();
     let third = Head {
-        tag: 1,
-        kind: 2,
-        address: 30,
+        header: header(1, 2, 30),
         size: 5,
         handed: true,
     };
@@ -43,7 +44,7 @@ fn through_pop(rt: HostRuntime) -> Result<(), Fail> {
 fn taken_away(rt: HostRuntime) -> Result<(), Fail> {
     let mut q = Queue::new();
     for tag in 0..4 {
-        assert_eq!(rt; q.push(tag, 0, 0, b"x"), Ok(()));
+        assert_eq!(rt; q.push(header(tag, 0, 0), b"x"), Ok(()));
     }
     for i in 0..3 {
         q.hand(i);

@@ -1,9 +1,15 @@
 // The same queue as a plain list of requests, each with memory of its own.
-use model::Refusal;
+use model::{Header, Refusal};
 use queue::{Head, Queue};
 use std::alloc::{AllocError, Global};
+use std::collections::VecDeque;
 use std::process::Abort;
 use std::test::*;
+
+// A header by its three numbers.
+pub(crate) fn header(tag: u32, kind: u8, address: u32) -> Header {
+    Header { tag, kind, address }
+}
 
 #[derive(Drop)]
 struct Plain {
@@ -14,26 +20,30 @@ struct Plain {
 #[derive(Drop)]
 pub struct PlainQueue {
     heap: Global,
-    list: Vec<Plain>,
+    list: VecDeque<Plain>,
 }
 
 impl PlainQueue {
     pub(crate) fn new(heap: Global) -> PlainQueue {
         PlainQueue {
             heap,
-            list: Vec::new(heap),
+            list: VecDeque::new(heap),
         }
+    }
+
+    // How many bytes the payloads have, in all.
+    fn used(&self) -> usize {
+        self.list.iter().fold(
+            0,
+            |sum: usize, plain| sum.saturating_add(plain.payload.len()),
+        )
     }
 
     // What is to come of one more request.
     pub(crate) fn verdict(&self, size: usize) -> Result<(), Refusal> {
-        let mut sum = size;
-        for plain in self.list.iter() {
-            sum = sum.saturating_add(plain.payload.len());
-        }
         if self.list.len() == 16 {
             Err(Refusal::Full)
-        } else if sum > 8192 {
+        } else if self.used().saturating_add(size) > 8192 {
             Err(Refusal::Room)
         } else {
             Ok(())
@@ -42,19 +52,17 @@ impl PlainQueue {
 
     pub(crate) fn push(&mut self, head: Head, payload: &[u8]) -> Result<(), AllocError> {
         let payload = payload.to_vec(self.heap)?;
-        self.list.push(Plain { head, payload })?;
+        self.list.push_back(Plain { head, payload })?;
         Ok(())
     }
 
     pub(crate) fn pop(&mut self) {
-        if !self.list.is_empty() {
-            let _ = self.list.remove(0);
-        }
+        let _ = self.list.pop_front();
     }
 
     pub(crate) fn hand(&mut self, i: usize) {
-        if i < self.list.len() {
-            self.list[i].head.handed = true;
+        if let Some(plain) = self.list.get_mut(i) {
+            plain.head.handed = true;
         }
     }
 
@@ -66,21 +74,15 @@ impl PlainQueue {
 
     // Whether a queue keeps the same, as far as its calls tell.
     pub(crate) fn matches(&self, rt: &impl Abort, q: &Queue) -> Result<(), Fail> {
-        let mut used = 0usize;
-        let mut unhanded = 0usize;
-        let mut first = None;
         for (i, plain) in self.list.iter().enumerate() {
             assert_eq!(rt; q.request(i), Some(plain.head));
             assert_eq!(rt; q.payload(i), Some(plain.payload.as_slice()));
-            used = used.saturating_add(plain.payload.len());
-            if !plain.head.handed {
-                unhanded = unhanded.saturating_add(1);
-                first = first.or(Some(i));
-            }
         }
+        let unhanded = self.list.iter().filter(|plain| !plain.head.handed);
+        let first = self.list.iter().position(|plain| !plain.head.handed);
         assert_eq!(rt; q.len(), self.list.len());
-        assert_eq!(rt; q.used(), used);
-        assert_eq!(rt; q.unhanded(), unhanded);
+        assert_eq!(rt; q.used(), self.used());
+        assert_eq!(rt; q.unhanded(), unhanded.count());
         assert_eq!(rt; q.first_unhanded(), first);
         Ok(())
     }

@@ -1,5 +1,5 @@
 // Many adds and removes of mixed sizes, beside a plain list.
-use crate::plain::PlainQueue;
+use crate::plain::{PlainQueue, header};
 use model::Refusal;
 use queue::{Head, Queue};
 use std::process::Abort;
@@ -21,14 +21,12 @@ fn add(
     bytes: &[u8],
 ) -> Result<usize, Fail> {
     let head = Head {
-        tag: seed % 7,
-        kind: (seed % 3) as u8,
-        address: seed,
+        header: header(seed % 7, (seed % 3) as u8, seed),
         size: bytes.len(),
         handed: false,
     };
     let expected = plain.verdict(bytes.len());
-    assert_eq!(rt; q.push(head.tag, head.kind, head.address, bytes), expected);
+    assert_eq!(rt; q.push(head.header, bytes), expected);
     if expected.is_err() {
         return Ok(0);
     }

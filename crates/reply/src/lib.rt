@@ -14,16 +14,16 @@ pub fn acknowledgement(frame: &[u8]) -> Option<[u8; 14]>
     Some([*g, *h, *i, *j, *k, *l, *a, *b, *c, *d, *e, *f, *m, *n])
 }
 
-// Two counters from the front of an answer, and zeros where it is too short.
+// Two counters from the front of an answer, and zeros where it is too short: it cannot fail.
 pub fn counters(answer: &[u8]) -> (u32, u32)
     ensures first { result.0 ≡ le_at answer.now 0 }
     ensures second { result.1 ≡ le_at answer.now 4 }
 {
-    match answer {
-        [a, b, c, d, e, f, g, h, ..] => (
-            u32::from_le_bytes([*a, *b, *c, *d]),
-            u32::from_le_bytes([*e, *f, *g, *h]),
-        ),
-        _ => (0, 0),
-    }
+    let [a, b, c, d, e, f, g, h, ..] = answer else {
+        return (0, 0);
+    };
+    (
+        u32::from_le_bytes([*a, *b, *c, *d]),
+        u32::from_le_bytes([*e, *f, *g, *h]),
+    )
 }

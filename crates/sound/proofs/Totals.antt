@@ -1,34 +1,36 @@
-use Rattle.std.proofs.Common.{◌≡◌, ℕ, zero, suc, ◌+◌, ◌*◌, ◌/◌, ◌%◌, ◌^◌, ◌<◌, ◌≤◌, List, [], ◌∷◌, length, get_or, drop, ℤ, pos, negsuc, ◌*ℤ◌, neg_ℤ, sym, ap, arith, w32, SFits, to_z, of_z}
-use Rattle.std.proofs.lemmas.Int.{to_z-of_z, to_z_pos}
+-- What a sample and a payload add to a total.
+use Rattle.std.proofs.Common.{◌≡◌, ℕ, zero, suc, ◌+◌, ◌/◌, ◌%◌, ◌^◌, ◌<◌, ◌≤◌, List, [], ◌∷◌, length, get_or, ℤ, pos, negsuc, ◌*ℤ◌, refl, arith, w32, SFits, to_z, of_z}
+use Rattle.std.proofs.lemmas.Int.{to_z-of_z, to_z_pos, fits_signed_mul, quot_fits, ints}
+use Rattle.std.specs.Int.RustNames.{unsigned_abs}
+use Rattle.std.specs.List.{fold}
+use Rattle.std.specs.Simd.{first_chunks}
 use Rattle.sound.specs.Samples.{heard, sample, played}
 use lib.Signed.{mag, quot_z}
-use Rattle.std.proofs.lemmas.Nat.{mul-le}
 
-below_neg : (m : ℕ) → m ≤ 8388608 → SFits w32 (neg_ℤ (pos m))
-below_neg zero h = record { sfits = omega arith }
-below_neg (suc m) h = record { sfits = omega arith }
-
-pub product : (s : ℤ) (l : ℕ) → mag s < 32768 → l ≤ 256 → SFits w32 (s *ℤ pos l)
-product (pos a) l h k = record { sfits = omega (arith, mul-le a l 32767 256 (omega arith) k) }
-product (negsuc a) l h k = below_neg (suc a * l) (omega (arith, mul-le (suc a) l 32768 256 (omega arith) k))
-
-down_fits : (m a : ℕ) → m ≤ suc a → a < 2147483648 → SFits w32 (neg_ℤ (pos m))
-down_fits zero a h k = record { sfits = omega arith }
-down_fits (suc m) a h k = record { sfits = omega arith }
-
-quotient : (z : ℤ) → SFits w32 z → SFits w32 (quot_z z (pos 256))
-quotient (pos a) f = record { sfits = omega (arith, f.sfits) }
-quotient (negsuc a) f = down_fits (suc a / 256) a (omega arith) f.sfits
+within : (s : ℤ) → mag s < 32768 → unsigned_abs s ≤ 32768
+within (pos a) h = omega arith
+within (negsuc a) h = omega arith
 
 -- what the code computes, through its casts, is the rule
 pub landed : (t l : ℕ) (s s₀ : ℤ) → s ≡ s₀ → mag s₀ < 32768 → l ≤ 256
     → (t + of_z w32 (to_z w32 (of_z w32 (quot_z (to_z w32 (of_z w32 (to_z w32 (of_z w32 s) *ℤ to_z w32 l))) (pos 256))))) % 2 ^ 32 ≡ heard l t s₀
 landed t l s s₀ e h k =
-    let p = product s₀ l h k in
-    rw (e, to_z-of_z w32 s₀ (record { sfits = omega arith }), to_z_pos w32 l (omega arith), to_z-of_z w32 (s₀ *ℤ pos l) p, to_z-of_z w32 (quot_z (s₀ *ℤ pos l) (pos 256)) (quotient (s₀ *ℤ pos l) p))
+    let p : SFits w32 (s₀ *ℤ pos l) = fits_signed_mul w32 s₀ (pos l) 32768 256 (within s₀ h) k (omega arith) in
+    let q : SFits w32 (quot_z (s₀ *ℤ pos l) (pos 256)) = quot_fits w32 (s₀ *ℤ pos l) (pos 256) p (omega (arith, ints)) in
+    rw (e, to_z-of_z w32 s₀ (record { sfits = omega arith }), to_z_pos w32 l (omega arith), to_z-of_z w32 (s₀ *ℤ pos l) p, to_z-of_z w32 (quot_z (s₀ *ℤ pos l) (pos 256)) q)
 
--- two bytes more
-pub played_two : (l t : ℕ) (xs zs : List ℕ) → 2 ≤ length xs → zs ≡ drop 2 xs → played l t xs ≡ played l (heard l t (sample (get_or xs 0 0) (get_or xs 1 0))) zs
-played_two l t [] zs h r = absurd (omega arith)
-played_two l t (x ∷ []) zs h r = absurd (omega arith)
-played_two l t (lo ∷ (hi ∷ rest)) zs h r = ap (played l (heard l t (sample lo hi))) (sym r)
+-- a fold over the pairs of a payload is what its samples add up to
+module _ (level : ℕ) where
+  abbrev pub add_pair : ℕ → List ℕ → ℕ
+  add_pair total pair = heard level total (sample (get_or pair 0 0) (get_or pair 1 0))
+
+  pairs : (n total : ℕ) (xs : List ℕ) → n ≡ length xs / 2 → fold add_pair total (first_chunks 2 n xs) ≡ played level total xs
+  pairs zero total [] e = refl
+  pairs (suc n) total [] e = absurd (omega arith)
+  pairs zero total (x ∷ []) e = refl
+  pairs (suc n) total (x ∷ []) e = absurd (omega arith)
+  pairs zero total (low ∷ (high ∷ rest)) e = absurd (omega arith)
+  pairs (suc n) total (low ∷ (high ∷ rest)) e = pairs n (heard level total (sample low high)) rest (omega arith)
+
+  pub added : (total : ℕ) (xs : List ℕ) → fold add_pair total (first_chunks 2 (length xs / 2) xs) ≡ played level total xs
+  added total xs = pairs (length xs / 2) total xs refl

@@ -1,6 +1,7 @@
 -- The sound class: what its requests do to a count of samples and their total.
 use Rattle.std.specs.Prelude.{ℕ, ◌+◌, ◌/◌, ◌%◌, ◌^◌, Bool, true, false, cond, ◌&&◌, List, [], ◌∷◌, length, is_some, Some, None, Option, ◌==◌, nat_le, slice_index}
 use Rattle.model.specs.Requests.{Contents, Outcome, untouched, counts}
+use Rattle.model.specs.Kinds.{takes_of, declared_of}
 use Rattle.model.specs.Rules.{Rules, between}
 use Rattle.model.specs.declared.setting.SettingRange.{SettingRange}
 use Rattle.sound.specs.declared.op.SoundOp.{SoundOp}
@@ -17,16 +18,14 @@ abbrev pub op_of : ℕ → Option SoundOp
 op_of k = cond (k == 1) (Some Play) (cond (k == 2) (Some Counters) None)
 
 -- the payload lengths of each kind: whole samples, 1 to 512 of them, or nothing
-abbrev pub takes : Option SoundOp → ℕ → Bool
-takes None n = false
-takes (Some Play) n = n % 2 == 0 && (nat_le 2 n && nat_le n 1024)
-takes (Some Counters) n = n == 0
+abbrev pub takes : SoundOp → ℕ → Bool
+takes Play n = n % 2 == 0 && (nat_le 2 n && nat_le n 1024)
+takes Counters n = n == 0
 
 -- only the counters can be asked for twice to the same effect
-abbrev pub declared : Option SoundOp → Bool
-declared None = false
-declared (Some Play) = false
-declared (Some Counters) = true
+abbrev pub declared : SoundOp → Bool
+declared Play = false
+declared Counters = true
 
 -- n samples played, with total t
 abbrev pub sound_of : ℕ → ℕ → Contents
@@ -57,8 +56,8 @@ sound_rules = record {
   limit = 8;
   longest = 8;
   kind = λ k. is_some (op_of k);
-  takes = λ k n. takes (op_of k) n;
-  declared = λ k. declared (op_of k);
+  takes = λ k n. takes_of takes (op_of k) n;
+  declared = λ k. declared_of declared (op_of k);
   holds = λ reach x. (reach == 1) && (length x.counters == 2);
   perform = λ x level k a payload. act (op_of k) x level payload;
 }

@@ -1,17 +1,17 @@
 // A speaker: it counts the samples that it plays, and adds them up as loud as the level makes them.
-ghost use Rattle.std.specs.Prelude.{◌≡◌, ◌≤◌};
+ghost use Rattle.std.specs.Prelude.{◌≡◌, ◌≤◌, slice_index};
 ghost use Rattle.sound.specs.Samples.{heard, sample, played};
 ghost use Rattle.sound.specs.Sounds.{sound_of};
 
 use crate::class::Sound;
 use crate::op::SoundOp;
-use device::{Device, allows, put_counters};
+use device::{Command, Device, permitted, put_counters};
 
-fn add_sample(total: u32, level: u32, low: u8, high: u8) -> u32
+fn add_sample(total: u32, level: u32, pair: [u8; 2]) -> u32
     requires { level ≤ 256 }
-    ensures { result ≡ heard level total (sample low high) }
+    ensures { result ≡ heard level total (sample (slice_index pair 0) (slice_index pair 1)) }
 {
-    let s = i32::from(i16::from_le_bytes([low, high]));
+    let s = i32::from(i16::from_le_bytes(pair));
     total.wrapping_add_signed(s * level as i32 / 256)
 }
 
@@ -20,13 +20,10 @@ fn play(from: u32, level: u32, payload: &[u8]) -> u32
     requires { level ≤ 256 }
     ensures { result ≡ played level from payload.now }
 {
-    let mut total = from;
-    let mut left = payload;
-    while let [low, high, rest @ ..] = left {
-        total = add_sample(total, level, *low, *high);
-        left = rest;
-    }
-    total
+    let (pairs, _) = payload.as_chunks::<2>();
+    pairs
+        .iter()
+        .fold(from, |total, pair| add_sample(total, level, *pair))
 }
 
 #[derive(Drop)]
@@ -57,21 +54,12 @@ impl Device for Speaker {
         1
     }
 
-    fn perform(
-        &mut self,
-        level: u32,
-        kind: u8,
-        address: u32,
-        payload: &[u8],
-        answer: &mut [u8],
-    ) -> usize {
-        if !allows::<Sound>(1, level, kind, address, payload.len(), answer.len()) {
-            return 0;
-        }
-        match SoundOp::from_kind(kind) {
+    fn perform(&mut self, command: &Command<'_>, answer: &mut [u8]) -> usize {
+        match permitted::<Sound>(self.reaches(), command, answer.len()) {
             Some(SoundOp::Play) => {
-                self.samples = self.samples.wrapping_add((payload.len() / 2) as u32);
-                self.total = play(self.total, level, payload);
+                let samples = (command.payload.len() / 2) as u32;
+                self.samples = self.samples.wrapping_add(samples);
+                self.total = play(self.total, command.level, command.payload);
                 0
             }
             Some(SoundOp::Counters) => put_counters(answer, self.samples, self.total),

@@ -8,7 +8,7 @@ use Rattle.device.specs.Performing.{outcome, Performed}
 use Rattle.block.specs.declared.op.BlockOp.TheVariants.{Read, Write}
 use Rattle.block.specs.Blocks.{block_rules, block_at, act}
 use Rattle.block.specs.Disks.{reach_of, blocks_of, beyond}
-use Rattle.block.proofs.Memory.{whole_same, whole_written, block_read}
+use Rattle.block.proofs.Blocks.{whole_same, whole_written, block_read}
 
 write_outcome : (reach a room : ℕ) (x : Contents) (zs : List ℕ) → a < reach → length zs ≡ 512 → 512 ≤ room
     → outcome block_rules reach x 0 2 a zs room ≡ act (Some Write) x a zs

@@ -1,4 +1,6 @@
 mod Asking
+mod Disking
+pub mod InTurn
 mod Keeping
 mod Laying
 pub mod Recorded

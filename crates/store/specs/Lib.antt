@@ -1,3 +1,5 @@
 pub mod Blocks
+pub mod Disks
+pub mod Media
 pub mod Records
 pub mod Stores

@@ -1,56 +1,55 @@
 // Frames as records of whole blocks.
-ghost use Rattle.std.specs.Prelude.{◌≡◌, ◌+◌, ◌≤◌, ◌++◌, length, drop};
-ghost use Rattle.store.specs.Records.{be2, padded, blocks_for};
-ghost use Rattle.store.specs.Blocks.{record_blocks};
+ghost use Rattle.std.specs.Prelude.{◌≡◌};
+ghost use Rattle.store.specs.Records.{blocks_of};
+ghost use Rattle.store.specs.Blocks.{record_blocks, fitted};
 
-pub const LONGEST_FRAME: usize = 1514;
+use crate::store::StoreError;
+pub use arrivals::LONGEST_FRAME;
+pub use block::BLOCK;
 
-pub(crate) const BLOCK: usize = 512;
-
-// The blocks that a frame of `size` bytes takes, with its two length bytes.
-pub(crate) fn blocks_for(size: usize) -> u32
-    requires { size ≤ 1514 }
-    ensures { result ≡ blocks_for size }
-{
-    ((size + 513) / BLOCK) as u32
-}
-
-// Writes the length of a frame in two bytes, the higher first, and then the frame.
-fn lay(room: &mut [u8], frame: &[u8])
-    requires { (length frame.now ≤ 1514) × (2 + length frame.now ≤ length room.old) }
-    ensures { room.new ≡ be2 (length frame.now) ++ (frame.now ++ drop (2 + length frame.now) room.old) }
-{
-    let size = frame.len();
-    room[0] = (size / 256) as u8;
-    room[1] = (size % 256) as u8;
-    room[2..2 + size].copy_from_slice(frame);
-}
-
-// The record of a frame, with zeros behind it.
-pub(crate) fn pad(frame: &[u8]) -> [u8; 1536]
-    requires { length frame.now ≤ 1514 }
-    ensures { result ≡ padded frame.now }
-{
-    let mut record = [0u8; 1536];
-    lay(&mut record, frame);
-    record
-}
-
-// The record of a frame: its blocks, with zeros behind them, and how many they are.
-#[derive(Clone, Copy)]
+// The record of a frame: its blocks, with zeros behind them, and how many they are. An array with a count, in fixed
+// memory by a rule: the zeros come with it, and `blocks` gives those that count.
+#[derive(Clone, Copy, PartialEq, Eq, Debug)]
 pub struct Record {
     pub count: u32,
     pub bytes: [u8; 1536],
 }
 
-// The record of a frame; none for what is longer than any frame.
+impl Record {
+    pub fn blocks(&self) -> &[[u8; BLOCK]]
+        ensures { result.now ≡ blocks_of self.now.count self.now.bytes }
+    {
+        let (blocks, _) = self.bytes.as_chunks();
+        &blocks[..blocks.len().min(self.count as usize)]
+    }
+}
+
+// The record of a frame: its length in two bytes, the higher first, and then the frame; none for what is longer than
+// any frame.
 pub fn record_of(frame: &[u8]) -> Option<Record>
     ensures { result ≡ record_blocks frame.now }
 {
     if frame.len() > LONGEST_FRAME {
         return None;
     }
-    let count = blocks_for(frame.len());
-    let bytes = pad(frame);
+    let size = frame.len();
+    let mut bytes = [0u8; 1536];
+    let [high, low] = (size as u16).to_be_bytes();
+    // one by one: with `copy_from_slice` of both the proof did not close
+    bytes[0] = high;
+    bytes[1] = low;
+    bytes[2..2 + size].copy_from_slice(frame);
+    let count = (2 + size).div_ceil(BLOCK) as u32;
     Some(Record { count, bytes })
+}
+
+// The record of a frame that a disk with this many blocks has room for, from a block on.
+pub fn fitted(frame: &[u8], first: u32, reach: u32) -> Result<Record, StoreError>
+    ensures { result ≡ fitted frame.now first reach }
+{
+    let record = record_of(frame).ok_or(StoreError::TooLong)?;
+    if first > reach || record.count > reach - first {
+        return Err(StoreError::Full);
+    }
+    Ok(record)
 }

@@ -4,8 +4,8 @@ ghost use Rattle.block.specs.Memories.{memory_of};
 ghost use Rattle.store.specs.Records.{blocks_for};
 ghost use Rattle.store.specs.Stores.{bytes_of, verdict, with_record, Holds, Keeps};
 
-use crate::blocks::{finds_blocks, write_blocks};
-use crate::records::{LONGEST_FRAME, blocks_for, pad};
+use crate::medium::{has_blocks, put_blocks};
+use crate::records::fitted;
 use crate::store::{Store, StoreError};
 use block::Disk;
 use device::Device;
@@ -27,17 +27,10 @@ impl Store {
         ensures added { is_ok result ≡ true → Holds self.new self.old.next frame.now }
         ensures keeps { Keeps self.old self.new }
     {
-        if frame.len() > LONGEST_FRAME {
-            return Err(StoreError::TooLong);
-        }
         let first = self.next;
-        let count = blocks_for(frame.len());
-        let reach = self.disk.reaches();
-        if first > reach || count > reach - first {
-            return Err(StoreError::Full);
-        }
-        write_blocks(&mut self.disk, first, count, &pad(frame));
-        self.next = first + count;
+        let record = fitted(frame, first, self.disk.reaches())?;
+        put_blocks(&mut self.disk, first, record.blocks())?;
+        self.next = first + record.count;
         Ok(first)
     }
 
@@ -47,15 +40,10 @@ impl Store {
         ensures next { self.new.next ≡ self.old.next }
         ensures found { Decides result (Holds self.old first frame.now) }
     {
-        if frame.len() > LONGEST_FRAME {
+        let Ok(record) = fitted(frame, first, self.disk.reaches()) else {
             return false;
-        }
-        let count = blocks_for(frame.len());
-        let reach = self.disk.reaches();
-        if first > reach || count > reach - first {
-            return false;
-        }
-        finds_blocks(&mut self.disk, first, count, &pad(frame))
+        };
+        has_blocks(&mut self.disk, first, record.blocks()).unwrap_or(false)
     }
 
     // Adds the record of a frame, and reads it back; it is never found damaged.

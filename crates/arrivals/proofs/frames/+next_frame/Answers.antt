@@ -1,29 +1,29 @@
-use Rattle.std.proofs.Common.{◌+◌, ◌-◌, ◌*◌, length, take, drop, sym, ap, ◌∙◌, arith}
-use Rattle.std.proofs.lemmas.List.{take_rest, length-take, length-drop}
-use Rattle.arrivals.proofs.Seeks.{passed, answered, stopped}
+use Rattle.std.proofs.Common.{sym, refl, ◌∙◌, arith}
+use Rattle.std.proofs.lemmas.Bool.{and_left, and_right, ne_eqb}
+use Rattle.arrivals.proofs.Splits.{split_some, found_later, taken_later, left_later, taken_first}
 use Rattle.arrivals.proofs.frames.+next_frame.Goals as goal
-use Rattle.arrivals.proofs.frames.+next_frame.Goals.{else-level-eq0-via-then-level-eq0+else-rest-eq1, else-level-eq0-via-else-level-eq0}
+use Rattle.arrivals.proofs.frames.+next_frame.Goals.{else-level-eq0-via-then-level-eq0+else-is_group, else-level-eq0-via-else-level-eq0}
 
-pub returns-then-rest-eq1 : goal.returns-then-rest-eq1
-returns-then-rest-eq1 t c =
-    let r = take_rest c.args.bytes.now 2 in
-    let e = passed c.args.level (c.from.result * 256 + c.from-in-len2-up.result) c.args.bytes.now _ _ r (omega arith) (omega arith) (omega arith) (omega arith) c.if-level-eq0.true c.if-rest-eq1.true
-    (take_rest (take (length c.args.bytes.now - 2) (drop 2 c.args.bytes.now)) (c.from.result * 256 + c.from-in-len2-up.result)) in
+pub returns-then-is_group : goal.returns-then-is_group
+returns-then-is_group t c =
+    let next = c.next_frame-moved.ensures in
+    let s = split_some c.args.bytes.now (c.in-Some.frame.now, c.in-Some.rest.now) c.in-Some.ensures.parts in
+    let g = sym c.is_group.ensures ∙ c.if-is_group.true in
+    let found = found_later c.args.level _ _ _ s c.if-level-eq0.true g in
+    let taken = taken_later c.args.level _ _ _ s c.if-level-eq0.true g in
     record {
-      moved = ap (λ k. 2 + (c.from.result * 256 + c.from-in-len2-up.result) + k) c.next_frame-moved.ensures.moved ∙ ap (λ f. f.moved) (sym e);
-      frame = c.next_frame-moved.ensures.frame ∙ ap (λ f. f.frame) (sym e);
-      within = omega (arith, simp (length-take, length-drop) at c.next_frame-moved.ensures.within);
-      short = c.next_frame-moved.ensures.short;
+      moved = rw (found, ← next.moved) refl;
+      frame = rw found next.frame;
+      within = omega (arith, s.whole, next.within);
+      short = next.short;
+      follows = rw (taken, left_later _ _ _ s c.next_frame-moved.result.0) next.follows;
     }
 
-pub returns-else-level-eq0 : goal.returns-else-level-eq0
-returns-else-level-eq0 t c =
-    let r = take_rest c.args.bytes.now 2 in
-    let e = answered c.args.level (c.from.result * 256 + c.from-in-len2-up.result) c.args.bytes.now _ r (omega arith) (omega arith) (omega arith) (omega arith)
-    (elim c.else-level-eq0.branch [ else-level-eq0-via-then-level-eq0+else-rest-eq1 w ↦ λ _. w.if-rest-eq1.false | else-level-eq0-via-else-level-eq0 w ↦ λ z _. w.if-level-eq0.false z ]) in
-    record { moved = ap (λ f. f.moved) (sym e); frame = ap (λ k. take k (take (length c.args.bytes.now - 2) (drop 2 c.args.bytes.now))) (omega arith) ∙ ap (λ f. f.frame) (sym e); within = omega arith; short = simp length-take (omega arith) }
-
-pub returns-then-n-rest : goal.returns-then-n-rest
-returns-then-n-rest t c =
-    let e = stopped c.args.level (c.from.result * 256 + c.from-in-len2-up.result) c.args.bytes.now _ (take_rest c.args.bytes.now 2) (omega arith) c.if-n-rest.either in
-    record { moved = ap (λ f. f.moved) (sym e); frame = ap (λ f. f.frame) (sym e); within = omega arith; short = omega arith }
+pub returns-else-level-eq0-clause-follows : goal.returns-else-level-eq0-clause-follows
+returns-else-level-eq0-clause-follows t c =
+    let s = split_some c.args.bytes.now (c.in-Some.frame.now, c.in-Some.rest.now) c.in-Some.ensures.parts in
+    taken_first c.args.level c.args.bytes.now c.in-Some.frame.now c.in-Some.rest.now s
+    (elim c.else-level-eq0.branch [
+      | else-level-eq0-via-then-level-eq0+else-is_group w ↦ and_right _ _ (sym w.is_group.ensures ∙ w.if-is_group.false)
+      | else-level-eq0-via-else-level-eq0 w ↦ and_left _ _ (ne_eqb _ _ w.if-level-eq0.false)
+    ])

@@ -1,4 +1,4 @@
-use Rattle.std.proofs.Common.{sym, refl, subst, arith}
+use Rattle.std.proofs.Common.{sym, refl, subst, arith, rules}
 use Rattle.std.proofs.lemmas.Result.{IfOk-from_err}
 use Rattle.burst.specs.declared.tally.Tally.{Tally}
 use Rattle.burst.specs.Bursts.{Left}
@@ -7,7 +7,7 @@ use Rattle.burst.proofs.taking.take_frames.Goals as goal
 
 pub loop-number-init : goal.loop-number-init
 loop-number-init g c =
-    (refl, (λ o. o), (λ o. o), (λ o. o), (λ o. nothing_left (g.B.Driver.state c.args.intake.now.store.driver) c.args.intake.now.store.next c.new-tally.result c.new-tally.ensures))
+    (refl, (λ o. o), (λ o. o), (λ o. o), (λ o. nothing_left (g.B.Driver.state c.args.intake.now.store.driver) c.args.intake.now.store.next c.default-tally.result (search rules)))
 
 pub loop-number-preserved : goal.loop-number-preserved
 loop-number-preserved g c =

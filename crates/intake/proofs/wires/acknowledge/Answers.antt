@@ -1,33 +1,21 @@
-use Rattle.std.proofs.Common.{Err, sym, refl, ap, ◌∙◌, subst}
+use Rattle.std.proofs.Common.{◌≡◌, sym, refl, ◌∙◌, arith}
 use Rattle.std.proofs.lemmas.Result.{err_from_is_err_and}
-use Rattle.driver.specs.Replies.{request, got}
-use Rattle.driver.specs.declared.answers.Header.{Header}
-use Rattle.exchange.specs.Exchanges.{Exchanged}
-use Rattle.intake.specs.Wires.{settled, sent, no_sender}
+use Rattle.exchange.specs.declared.silence.Silence.TheVariants.{Unanswered}
+use Rattle.intake.proofs.Asking.{sent_by}
+use Rattle.intake.specs.Wires.{no_sender}
 use Rattle.intake.proofs.wires.acknowledge.Goals as goal
 
-pub returns-in_default : goal.returns-in_default
-returns-in_default g c = record { fine = λ o. o; calls = λ o. no_sender (sym c.in_default.ensures) refl }
-
-pub returns-in_err-heard : goal.returns-in_err-heard
-returns-in_err-heard g c =
+pub returns-in_err-reply-clause-calls : goal.returns-in_err-reply-clause-calls
+returns-in_err-reply-clause-calls g c o =
     let p = err_from_is_err_and c.from_residual.result c.from_residual.ensures.1 in
-    record {
-      fine = c.exchange.ensures.fine;
-      calls = λ o.
-          sent c.exchange.result c.in-Some.reply c.exchange.new.buffer (sym c.in-Some.ensures)
-          (subst (λ (h : Header). Exchanged g.N.Driver.steps c.args.wire.now (request h c.in-Some.reply) 1514 (got c.exchange.new.buffer c.exchange.result) c.exchange.new.driver)
-          c.header.ensures (c.exchange.ensures.calls o))
-          (p.1 ∙ (ap Err p.2 ∙ ap settled c.in_err-heard.ensures));
-    }
+    let h = c.in_err-reply.ensures in
+    let u : c.in_err-reply.field-0.0 ≡ Unanswered = grind arith in
+    rw (p.1, p.2, u) (no_sender (sym c.acknowledgement.ensures ∙ h.ok_part) refl)
 
-pub returns : goal.returns
-returns g c =
-    record {
-      fine = c.exchange.ensures.fine;
-      calls = λ o.
-          sent c.exchange.result c.in-Some.reply c.exchange.new.buffer (sym c.in-Some.ensures)
-          (subst (λ (h : Header). Exchanged g.N.Driver.steps c.args.wire.now (request h c.in-Some.reply) 1514 (got c.exchange.new.buffer c.exchange.result) c.exchange.new.driver)
-          c.header.ensures (c.exchange.ensures.calls o))
-          (ap settled c.in_ok-heard.ensures);
-    }
+pub returns-in_err-ask-clause-calls : goal.returns-in_err-ask-clause-calls
+returns-in_err-ask-clause-calls g c o =
+    let p = err_from_is_err_and c.from_residual-in_err-ask.result c.from_residual-in_err-ask.ensures.1 in
+    rw (p.1, p.2) (sent_by c.header.ensures (sym c.acknowledgement.ensures ∙ c.in_ok-reply.ensures.ok_part) (omega arith) (c.in_err-ask.ensures.heard o))
+
+pub returns-clause-calls : goal.returns-clause-calls
+returns-clause-calls g c o = sent_by c.header.ensures (sym c.acknowledgement.ensures ∙ c.in_ok-reply.ensures.ok_part) (omega arith) (c.in_ok-ask.ensures.heard o)

@@ -1,37 +1,44 @@
-use Rattle.std.proofs.Common.{List, sym, refl, ap, ◌∙◌, arith}
-use Rattle.model.specs.Rules.{initial}
+use Rattle.std.proofs.Common.{◌≡◌, List, Some, sym, refl, ap, ◌∙◌, true, false, arith, rules}
+use Rattle.model.specs.Rules.{initial, greatest, has_setting}
 use Rattle.compaction.specs.declared.entry.Entry.{Entry}
-use Rattle.entry_log.specs.Items.{items_in}
 use Rattle.basis.specs.Views.{with_settings}
-use Rattle.basis.specs.Steps.{down, refuses, sets}
+use Rattle.basis.specs.Steps.{refuses, sets}
 use Rattle.basis.proofs.Stays.{set_room}
-use Rattle.base.specs.Held.{view}
-use Rattle.base.proofs.Joints.{noting, never_full, set_open, setting_shut, value_shut}
+use Rattle.base.specs.Held.{holding}
+use Rattle.base.proofs.Joints.{shut_down, taken, set_open, setting_shut, value_shut}
 use Rattle.base.proofs.driving.BaseDriverDriver.set.Goals as goal
 
-pub returns-then-not-self : goal.returns-then-not-self
-returns-then-not-self g c = λ o. down tt c.if-not-self.true refl
+pub returns-in_err-running : goal.returns-in_err-running
+returns-in_err-running g c = λ o. shut_down _ _ _ _ _ _ tt (search rules) (search rules)
 
 pub returns-then-not-has_setting : goal.returns-then-not-has_setting
 returns-then-not-has_setting g c = λ o.
-    refuses 2 c.if-not-self.false (setting_shut g.V.C.Class.rules (view g.V.Device.reach g.V.Device.contents c.args.self.now) c.args.key c.args.value (sym c.has_setting.ensures ∙ c.if-not-has_setting.true)) refl
-
-pub returns-then-greatest-value : goal.returns-then-greatest-value
-returns-then-greatest-value g c = λ o.
-    refuses 3 c.if-not-self.false (value_shut g.V.C.Class.rules (view g.V.Device.reach g.V.Device.contents c.args.self.now) c.args.key c.args.value (sym c.has_setting.ensures ∙ c.if-not-has_setting.false) (omega arith)) refl
-
-pub returns-in-Ok : goal.returns-in-Ok
-returns-in-Ok g c = λ o.
     let u = g.V.C.Class.rules in
-    let s = view g.V.Device.reach g.V.Device.contents c.args.self.now in
-    let old = c.args.self.now.settings in
-    sets c.if-not-self.false (set_open u s c.args.key c.args.value (sym c.has_setting.ensures ∙ c.if-not-has_setting.false) (omega arith))
-    (ap (λ (l : List Entry). with_settings s l) (noting (initial u) c.args.key c.args.value (items_in old) (items_in c.note.new.self) c.in-Ok.ensures.after))
+    let d = c.args.self.now.device in
+    let held : c.args.self.now.running ≡ Some c.in_ok-running.running.now = search rules in
+    let s = holding (g.V.Device.reach d) (g.V.Device.contents d) (Some c.in_ok-running.running.now) in
+    let key : has_setting u c.args.key ≡ false = rw c.from.ensures at (sym c.has_setting.ensures ∙ c.if-not-has_setting.true) in
+    rw held (refuses 2 refl (setting_shut u s c.args.key c.args.value key) refl)
 
-pub returns-in-Err : goal.returns-in-Err
-returns-in-Err g c = λ o.
+pub returns-then-greatest-from : goal.returns-then-greatest-from
+returns-then-greatest-from g c = λ o.
     let u = g.V.C.Class.rules in
-    let s = view g.V.Device.reach g.V.Device.contents c.args.self.now in
-    absurd (never_full (initial u) c.args.key c.args.value (items_in c.args.self.now.settings)
-    (set_room u s c.args.key c.args.value g.met.V.C.Class.bounds o c.if-not-self.false (set_open u s c.args.key c.args.value (sym c.has_setting.ensures ∙ c.if-not-has_setting.false) (omega arith)))
-    c.in-Err.ensures.test)
+    let d = c.args.self.now.device in
+    let held : c.args.self.now.running ≡ Some c.in_ok-running.running.now = search rules in
+    let s = holding (g.V.Device.reach d) (g.V.Device.contents d) (Some c.in_ok-running.running.now) in
+    let key : has_setting u c.args.key ≡ true = rw c.from.ensures at (sym c.has_setting.ensures ∙ c.if-not-has_setting.false) in
+    let most : c.greatest.result ≡ greatest u c.args.key = rw c.from-2.ensures at c.greatest.ensures in
+    rw held (refuses 3 refl (value_shut u s c.args.key c.args.value key (omega (arith, most))) refl)
+
+pub returns : goal.returns
+returns g c = λ o.
+    let u = g.V.C.Class.rules in
+    let d = c.args.self.now.device in
+    let held : c.args.self.now.running ≡ Some c.in_ok-running.running.now = search rules in
+    let s = holding (g.V.Device.reach d) (g.V.Device.contents d) (Some c.in_ok-running.running.now) in
+    let key : has_setting u c.args.key ≡ true = rw c.from.ensures at (sym c.has_setting.ensures ∙ c.if-not-has_setting.false) in
+    let most : c.greatest.result ≡ greatest u c.args.key = rw c.from-2.ensures at c.greatest.ensures in
+    let open' = set_open u s c.args.key c.args.value key (omega (arith, most)) in
+    let done = taken (initial u) c.args.key c.args.value c.in_ok-running.running.now.settings c.note_in.new.log c.note_in.result
+    (set_room u s c.args.key c.args.value g.met.V.C.Class.bounds (rw held at o) refl open') c.note_in.ensures.test c.note_in.ensures.after in
+    rw (held, done.0) (sets refl open' (ap (λ (l : List Entry). with_settings s l) done.1))

@@ -1,26 +1,16 @@
--- Every mark is taken away, and nothing else changes.
-use Rattle.std.proofs.Common.{false, length, drop, ap, ◌∙◌}
-use Rattle.std.proofs.lemmas.List.{length-map}
-use Rattle.heads.specs.Heads.{remark}
-use Rattle.queue.specs.Layout.{kept}
-use Rattle.heads.proofs.Steps.{unhand_total, unhand_laid}
+-- Every mark is taken away.
 use Rattle.queue.proofs.queue.Queue.unhand_all.Goals as goal
-
-pub invariant_of-self : goal.invariant_of-self
-invariant_of-self c =
-    let q = c.args.self.now in
-    let e = c.unhand_all.ensures in
-    record {
-      places = ap length e ∙ (length-map q.heads (remark false) ∙ q.places);
-      room = q.room;
-      few = q.few;
-      small = q.small;
-      within = q.within;
-      sizes = unhand_total q.heads c.unhand_all.new.xs q.count e ∙ q.sizes;
-    }
+use Rattle.std.proofs.Common.{false, map, length, ap, ◌∙◌}
+use Rattle.std.proofs.lemmas.List.{length-map}
+use Rattle.arrayvec.proofs.ArrayVecLemmas.{items-with_items}
+use Rattle.heads.specs.Heads.{remark}
+use Rattle.heads.specs.Kept.{marked}
+use Rattle.heads.specs.Laid.{laid}
+use Rattle.heads.proofs.Laid.{laid_unmarked}
 
 pub returns : goal.returns
-unfolding kept
 returns c =
-    let q = c.args.self.now in
-    unhand_laid q.heads c.unhand_all.new.xs q.count (drop q.start q.store) c.unhand_all.ensures
+    let q = c.self.inside in
+    let e = c.unhand_all.ensures ∙ ap (map (remark false)) c.deref_mut.ensures.value in
+    let r = items-with_items q.heads c.unhand_all.new.xs (ap length e ∙ length-map q.heads.items (remark false)) in
+    ap (λ hs. laid hs q.payloads) (r ∙ e) ∙ (laid_unmarked q.heads.items q.payloads ∙ ap (map (marked false)) c.self.view_is)

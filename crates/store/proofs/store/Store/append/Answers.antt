@@ -1,26 +1,33 @@
-use Rattle.std.proofs.Common.{ℕ, ◌+◌, ◌*◌, List, ap, ◌∙◌, arith, rules}
-use lib.Seq.{paste}
+use Rattle.std.proofs.Common.{◌≡◌, ℕ, ◌+◌, Ok, Err, Result, sym, ap, ◌∙◌, arith}
+use Rattle.std.proofs.lemmas.Bool.{cond-false, le-ltb}
 use Rattle.store.specs.declared.store.Store.{Store}
-use Rattle.store.specs.Stores.{bytes_of}
-use Rattle.store.proofs.Keeping.{Wrote, wrote_bytes, added, kept}
+use Rattle.store.specs.declared.store.StoreError.{StoreError}
+use Rattle.store.specs.Stores.{blocks_in}
+use Rattle.store.proofs.Keeping.{wrote, wrote_bytes, added, kept}
+use Rattle.store.proofs.Recorded.{fits}
 use Rattle.store.proofs.store.Store.append.Goals as goal
+
+pub returns-in_err-put_blocks : goal.returns-in_err-put_blocks
+returns-in_err-put_blocks c =
+    let s = c.args.self.now in
+    let t : Store = record { disk = c.put_blocks.new.medium; next = s.next } in
+    let f = fits c.args.frame.now s.next (blocks_in s) c.in_ok-record.record c.reaches.result c.reaches.ensures.count c.in_ok-record.ensures in
+    let w = wrote s t c.args.frame.now c.in_ok-record.record c.blocks-2.result.now c.put_blocks.result f c.blocks-2.ensures c.put_blocks.ensures in
+    let e : ◌≡◌ {A = Result Unit StoreError} (Err c.in_err-put_blocks.field-0.0) (Ok tt) = sym c.in_err-put_blocks.was ∙ w.0 in
+    let z : ◌≡◌ {A = ℕ} 0 1 = cc in
+    absurd (omega arith)
 
 pub returns : goal.returns
 returns c =
     let s = c.args.self.now in
-    let n = c.blocks_for-count.result in
-    let t : Store = record { disk = c.write_blocks.new.disk; next = s.next + n } in
-    let w : Wrote s t c.args.frame.now n =
+    let x = c.in_ok-record.record in
+    let t : Store = record { disk = c.put_blocks.new.medium; next = s.next + x.count } in
+    let f = fits c.args.frame.now s.next (blocks_in s) x c.reaches.result c.reaches.ensures.count c.in_ok-record.ensures in
+    let w = (wrote s t c.args.frame.now x c.blocks-2.result.now c.put_blocks.result f c.blocks-2.ensures c.put_blocks.ensures).1 in
     record {
-      short = omega arith;
-      count = c.blocks_for-count.ensures;
-      within = omega arith;
-      bytes = c.write_blocks.ensures ∙ ap (λ (xs : List ℕ). paste (bytes_of s) (s.next * 512) xs (n * 512)) c.pad.ensures;
-    } in
-    record {
-      verdict = search rules;
-      bytes = wrote_bytes s t c.args.frame.now n w;
-      next = ap (λ (m : ℕ). s.next + m) c.blocks_for-count.ensures;
-      added = λ _. added s t c.args.frame.now n w;
-      keeps = kept s t c.args.frame.now n w;
+      verdict = sym (cond-false _ _ _ (le-ltb _ _ f.short) ∙ cond-false _ _ _ (le-ltb _ _ f.within));
+      bytes = wrote_bytes s t c.args.frame.now w;
+      next = ap (λ (m : ℕ). s.next + m) f.count;
+      added = λ _. added s t c.args.frame.now w;
+      keeps = kept s t c.args.frame.now w;
     }

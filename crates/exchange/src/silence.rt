@@ -1,0 +1,20 @@
+// Why a request got no answer.
+use model::Refusal;
+
+#[derive(Clone, Copy, PartialEq, Eq, Debug)]
+pub enum Silence {
+    Refused(Refusal),
+    // it was lost, or still waits
+    Unanswered,
+}
+
+impl From<Refusal> for Silence {
+    ghost use Rattle.std.specs.Prelude.{◌≡◌};
+    ghost use Rattle.exchange.specs.declared.silence.Silence.TheVariants.{Refused};
+
+    ghost from_gives = { λ refusal silence. silence ≡ Refused refusal };
+
+    fn from(refusal: Refusal) -> Silence {
+        Silence::Refused(refusal)
+    }
+}

@@ -1,0 +1,2 @@
+-- What the contracts of the piles cite.
+pub mod Plans

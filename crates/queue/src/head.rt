@@ -1,2 +1,0 @@
-// What a queue keeps of a request, as `heads` has it.
-pub use heads::Head;

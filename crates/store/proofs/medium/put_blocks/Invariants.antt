@@ -1,0 +1,12 @@
+use Rattle.std.proofs.Common.{◌≡◌, ◌+◌, ◌<◌, ◌^◌, length}
+use Rattle.std.specs.Slice.Iter.{iter_rest}
+use Rattle.store.proofs.InTurn.{Left_put}
+use Rattle.store.proofs.medium.put_blocks.Given as goal
+
+-- what is left of the addresses and of the blocks is what is left to do
+abbrev pub invariant-loop-address : goal.invariant-loop-address
+invariant-loop-address g l =
+    let range = l.address-iterator.a in
+    let rest = iter_rest l.address-iterator.b in
+    l.first + length l.blocks < 2 ^ 32 →
+    (range.end ≡ 4294967295) × (range.start + length rest < 2 ^ 32) × Left_put g.M.Medium.puts l.initial.medium l.first l.blocks l.medium range.start rest
