@@ -30,6 +30,7 @@ impl<V: Device> BaseDriver<V> {
     pub fn new(device: V) -> BaseDriver<V>
         ensures fine { Ok V.C.Class.rules (view V.Device.reach V.Device.contents result) }
         ensures state { meaning V.C.Class.rules (view V.Device.reach V.Device.contents result) ≡ bare V.C.Class.rules false (V.Device.reach device) (V.Device.contents device) }
+        ensures device { result.device ≡ device }
     {
         BaseDriver {
             running: None,

@@ -34,7 +34,7 @@ pub struct Disk<M = Vec<u8>> {
 // A disk over memory that is lent to it.
 pub type LentDisk<'a> = Disk<&'a mut [u8]>;
 
-impl<M> Disk<M> {
+impl<M: Memory> Disk<M> {
     pub fn new(memory: M) -> Disk<M>
         ensures { stands_on result ≡ memory }
     {

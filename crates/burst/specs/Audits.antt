@@ -14,7 +14,7 @@ use Rattle.burst.specs.Counts.{capped}
 
 -- a store of a bare disk says whether the record stands there, and its bytes stay as they are
 abbrev pub DiskLooks : Store → ℕ → List ℕ → Bool → Store → Type 0
-DiskLooks s first frame b t = (bytes_of t ≡ bytes_of s) × Decides b (Holds s first frame)
+DiskLooks s first frame b t = (bytes_of t ≡ bytes_of s) × (t.next ≡ s.next) × Decides b (Holds s first frame)
 
 -- an answer that the record was found
 abbrev pub is_found : Result Bool StoreError → Bool
@@ -24,7 +24,7 @@ is_found (Err e) = false
 -- a store on a driver says so where the driver answers
 abbrev pub DriverLooks : {D : Type 0} (ok : D → Type 0) (state : D → State) (fault : D → Fault) → Archive D → ℕ → List ℕ → Bool → Archive D → Type 0
 DriverLooks ok state fault s first frame b t =
-    ok s.driver → ok t.driver × (r : Result Bool StoreError) × (b ≡ is_found r) × Verified (state s.driver) first frame (fault t.driver) r (state t.driver)
+    (t.next ≡ s.next) × (ok s.driver → ok t.driver × (r : Result Bool StoreError) × (b ≡ is_found r) × Verified (state s.driver) first frame (fault t.driver) r (state t.driver))
 
 -- how many blocks the record of a frame takes
 abbrev pub count_of : Option Record → ℕ

@@ -57,7 +57,8 @@ pub fn report_speaker<S: Driver<C = Sound>>(rt: &impl Print, speaker: &mut S) ->
     println!(rt; "speaker: {samples} samples, total {loudness}")
 }
 
-// The two counters of a device, through its driver; zeros where it does not answer.
+// The two counters of a device, through its driver; zeros where it does not answer. The kind is a number, since it is
+// the header's at once.
 fn counted<D: Driver>(driver: &mut D, kind: u8) -> (u32, u32)
     ensures { D.Driver.ok driver.old → Counts D.Driver.steps driver.old kind driver.new }
 {

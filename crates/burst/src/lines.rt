@@ -7,9 +7,9 @@ use std::io;
 
 // A call of the network that was refused: FAILED with its pair, or the number of the refusal.
 pub(crate) fn report_refusal(rt: &impl Print, call: &str, refusal: Refusal) -> io::Result<()> {
-    match refusal.fault() {
-        Some(fault) => println!(rt; "network: {call} answered FAILED {fault}"),
-        None => println!(rt;
+    match refusal {
+        Refusal::Failed(_) => println!(rt; "network: {call} answered {refusal}"),
+        _ => println!(rt;
             "network: {call} was refused, number {}",
             u32::from(refusal)
         ),

@@ -1,4 +1,5 @@
-// One session of the gateway, over drivers of any make.
+// One session of the gateway, over drivers of any make. The program `gateway` ends where a driver does not start, and
+// tells the blocks used in another place: one function with two flags for that would be no plainer than both.
 use block::Block;
 use burst::{mend, report_burst, report_speaker, report_wire, start, take_frames};
 use driver::Driver;

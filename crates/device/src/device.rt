@@ -19,7 +19,7 @@ pub trait Device {
         ensures held { Self.C.Class.rules.holds (reach self.now) (contents self.now) ≡ true };
 
     // Performs a command that the class allows, and answers the length of its answer, which stands at the
-    // front of the buffer; any other command changes nothing, and answers 0.
+    // front of the buffer; any other command changes nothing, and answers the length 0, by a rule.
     fn perform(&mut self, command: &Command<'_>, answer: &mut [u8]) -> usize
         ensures { Performed (reach self.old) answer.old (outcome Self.C.Class.rules (reach self.old) (contents self.old) command.now.level command.now.kind command.now.address command.now.payload.now (length answer.old)) (reach self.new) (contents self.new) answer.new result };
 }

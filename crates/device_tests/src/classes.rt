@@ -6,7 +6,7 @@ use std::process::Abort;
 
 // What a class is to say: of keys, their first and greatest values; of names; of kinds, whether there is
 // such a kind and whether it is declared; of the kinds and sizes of payloads.
-#[derive(Clone, Copy)]
+#[derive(Clone, Copy, PartialEq, Eq, Debug)]
 struct Saying {
     keys: [(u64, bool, u64, u64); 4],
     names: [(u32, bool); 4],

@@ -18,7 +18,8 @@ pub trait Driver {
     // The pair that it answers while it is down.
     ghost fault: { Self → Fault };
 
-    // Well formed: every constructor gives it, and every call keeps it.
+    // Well formed: every constructor gives it, and every call keeps it. It is a premise of each clause: as an invariant of
+    // whoever holds a driver it would be a `requires` of its constructor, and by a rule no public call has one.
     ghost ok: { Self → Type 0 };
 
     // Its own steps, exactly.

@@ -1,4 +1,5 @@
-// Which entries have been handed on.
+// Which entries have been handed on. A queue has calls of the same names: each is one line over the generic ones of
+// `marks`, with a clause about its own list.
 ghost use Rattle.std.specs.Prelude.{◌≡◌, ◌≤◌, false, not, map, length, count_by};
 ghost use Rattle.marks.specs.First.{firstFrom};
 ghost use Rattle.entry_log.specs.Items.{entries_of, marked, hand_at};

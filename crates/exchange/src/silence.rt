@@ -1,4 +1,4 @@
-// Why a request got no answer.
+// Why a request got no answer. An error, and no Option of a refusal: `?` makes it of a refusal, and of it a store's error.
 use model::Refusal;
 
 #[derive(Clone, Copy, PartialEq, Eq, Debug)]

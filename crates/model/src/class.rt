@@ -68,7 +68,7 @@ pub trait Class {
     fn has_name(name: u32) -> bool
         ensures { result ≡ rules.name name }
     {
-        Self::FIRST_NAME <= name && name <= Self::LAST_NAME
+        (Self::FIRST_NAME..=Self::LAST_NAME).contains(&name)
     }
 
     // The kind that a number stands for, if there is one.

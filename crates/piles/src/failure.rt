@@ -19,8 +19,5 @@ pub fn planned(rt: &HostRuntime) -> anyhow::Result<Failure> {
 }
 
 fn number_of(word: Option<String>) -> Result<u32, ParseIntError> {
-    match word {
-        Some(word) => word.as_str().parse::<u32>(),
-        None => Ok(0),
-    }
+    word.map_or(Ok(0), |word| word.as_str().parse::<u32>())
 }

@@ -6,6 +6,7 @@ ghost use Rattle.fault.specs.Plans.{shut};
 ghost use Rattle.fault.specs.Layers.{LayerOk};
 ghost use Rattle.block.specs.Blocks.{block_rules};
 ghost use Rattle.block.specs.Disks.{reach_of, blocks_of};
+ghost use Rattle.block.specs.Memories.{memory_of};
 ghost use Rattle.network.specs.Networks.{network_rules, network_of};
 ghost use Rattle.sound.specs.Sounds.{sound_rules, sound_of};
 ghost use Rattle.piles.specs.Plans.{plan_of, never};
@@ -46,6 +47,7 @@ pub fn wire_pile(arrivals: Vec<u8>, failure: Failure) -> WirePile
 pub fn disk_pile(memory: Vec<u8>) -> DiskPile
     ensures fine { ⟦<Faulty<BaseDriver<Disk>> as Driver>⟧.ok result }
     ensures state { ⟦<Faulty<BaseDriver<Disk>> as Driver>⟧.state result ≡ bare block_rules false (reach_of (length memory.items)) (blocks_of memory.items) }
+    ensures memory { memory_of result.below.device ≡ memory.items }
     ensures plan { result.plan ≡ plan_of never }
 {
     unfailing(BaseDriver::new(Disk::new(memory)))

@@ -3,10 +3,11 @@
 
 mod emptying;
 mod filling;
+pub mod head;
 mod marking;
 mod payloads;
 mod queue;
 mod reading;
 
-pub use heads::Head;
+pub use head::Head;
 pub use queue::{CAPACITY, MOST, Queue};

@@ -1,4 +1,5 @@
-// The marks of the requests: which have been handed on.
+// The marks of the requests: which have been handed on. A log has calls of the same names: each is one line over the
+// generic ones of `marks`, with a clause about its own list.
 ghost use Rattle.std.specs.Prelude.{◌≡◌, ◌≤◌, false, not, map, count_by};
 ghost use Rattle.marks.specs.First.{firstFrom};
 ghost use Rattle.heads.specs.Limits.{most};

@@ -4,6 +4,7 @@
 ghost use Rattle.std.specs.Prelude.{◌≡◌, length};
 ghost use Rattle.reply.specs.Replies.{reply_to, le_at};
 
+// Bytes are named one by one, since they change places.
 // The header of an acknowledgement: back from the frame's destination to its source, of the same type.
 pub fn acknowledgement(frame: &[u8]) -> Option<[u8; 14]>
     ensures { result ≡ reply_to frame.now }

@@ -7,6 +7,7 @@ use crate::class::Sound;
 use crate::op::SoundOp;
 use device::{Command, Device, permitted, put_counters};
 
+// The bound on a level stands here and in `play` alone, so a type of its own would be no plainer.
 fn add_sample(total: u32, level: u32, pair: [u8; 2]) -> u32
     requires { level ≤ 256 }
     ensures { result ≡ heard level total (sample (slice_index pair 0) (slice_index pair 1)) }

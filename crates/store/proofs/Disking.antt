@@ -23,13 +23,13 @@ pub disk_puts : {Z : Type 0} (k : ℕ) (s t : Disk (Vec ℕ Z)) (a : ℕ) (xs : 
     → (r ≡ Ok tt) × (memory_of t ≡ paste (memory_of s) (a * 512) xs (k * 512))
 disk_puts {Z = Z} zero s t a xs r l h (all_put e) = (refl, ap memory_of e ∙ paste_none (memory_of s) (a * 512) xs)
 disk_puts {Z = Z} (suc k) s t a xs r l h (next_put {m} p q) =
-    let w = (p (omega arith)).1 in
+    let w = (p.0 (omega arith)).1 in
     let one = length-take 512 xs in
     let same : length (memory_of m) ≡ length (memory_of s) = same_length (memory_of s) (take 512 xs) (memory_of m) a 1 w (omega arith) (omega arith) in
     let left = length-drop 512 xs in
     let rest = disk_puts {Z = Z} k m t (a + 1) (drop 512 xs) r (omega arith) (omega (arith, ap reach_of same)) q in
     (rest.0, rest.1 ∙ written_on (memory_of s) xs (memory_of m) a k (omega arith) l w)
-disk_puts {Z = Z} (suc k) s t a xs r l h (not_put p) = absurd (not_err (p (omega arith)).0)
+disk_puts {Z = Z} (suc k) s t a xs r l h (not_put p) = absurd (not_err (p.0 (omega arith)).0)
 
 pub record DiskFound {Z : Type 0} (k : ℕ) (s t : Disk (Vec ℕ Z)) (a : ℕ) (xs : List ℕ) (r : Result Bool StoreError) : Type 0 where
   pub answer : Bool
@@ -41,7 +41,7 @@ pub disk_finds : {Z : Type 0} (k : ℕ) (s t : Disk (Vec ℕ Z)) (a : ℕ) (xs :
     → DiskFound k s t a xs r
 disk_finds {Z = Z} zero s t a xs r l h (all_found e) = record { answer = true; is = refl; same = ap memory_of e; found = ((λ z. refl), (λ z. refl)) }
 disk_finds {Z = Z} (suc k) s t a xs r l h (next_found {m} p q) =
-    let w = p (omega arith) in
+    let w = p.0 (omega arith) in
     let left = length-drop 512 xs in
     let d = disk_finds {Z = Z} k m t (a + 1) (drop 512 xs) r (omega arith) (omega (arith, ap (λ (ys : List ℕ). reach_of (length ys)) w.2)) q in
     let yes : w.0 ≡ true = cc in
@@ -56,7 +56,7 @@ disk_finds {Z = Z} (suc k) s t a xs r l h (next_found {m} p q) =
       );
     }
 disk_finds {Z = Z} (suc k) s t a xs r l h (other_found p) =
-    let w = p (omega arith) in
+    let w = p.0 (omega arith) in
     let no : false ≡ w.0 = cc in
     record { answer = false; is = refl; same = w.2; found = ((λ z. absurd (false≢true z)), (λ e. no ∙ w.3.1 (first_same k a (memory_of s) xs e))) }
-disk_finds {Z = Z} (suc k) s t a xs r l h (not_found p) = absurd (not_err (p (omega arith)).1)
+disk_finds {Z = Z} (suc k) s t a xs r l h (not_found p) = absurd (not_err (p.0 (omega arith)).1)

@@ -1,5 +1,6 @@
 -- Blocks one after the other: what is left to do, and one step of it.
-use Rattle.std.proofs.Common.{◌≡◌, ℕ, ◌+◌, Bool, true, false, List, [], ◌∷◌, length, Ok, Err, Result, refl, arith}
+use Rattle.std.proofs.Common.{◌≡◌, ℕ, suc, ◌+◌, ◌-◌, ◌<◌, ◌≤◌, ◌⊎◌, inl, inr, Bool, true, false, List, [], ◌∷◌, length, take, Ok, Err, Result, refl, subst, arith}
+use Rattle.std.proofs.lemmas.List.{take_all, length-take}
 use Rattle.store.specs.Media.{Puts, all_put, next_put, not_put, Finds, all_found, next_found, other_found, not_found}
 
 module _ {M E : Type 0} (puts : M → ℕ → List ℕ → Result Unit E → M → Type 0) where
@@ -35,3 +36,25 @@ module _ {M E : Type 0} (looks : M → ℕ → List ℕ → Result Bool E → M 
   pub has_ends : {s m : M} {a b : ℕ} {bs : List (List ℕ)} (cs : List (List ℕ)) → Left_has s a bs m b cs → length cs ≡ 0 → Finds looks s a bs (Ok true) m
   has_ends [] l e = l _ _ (all_found refl)
   has_ends (c ∷ cs) l e = absurd (omega arith)
+
+-- one block more of those that still have an address
+pub taken_turn : (n a : ℕ) {cs ds : List (List ℕ)} {y : List ℕ} → cs ≡ y ∷ ds → a < n → take (n - a) cs ≡ y ∷ take (n - (a + 1)) ds
+taken_turn n a {ds} {y} e h =
+    let k : n - a ≡ suc (n - (a + 1)) = omega arith in
+    rw (e, k) refl
+
+-- no block is left, or no address
+pub taken_end : (n a : ℕ) (cs : List (List ℕ)) → (n ≤ a) ⊎ (length cs ≡ 0) → length (take (n - a) cs) ≡ 0
+taken_end n a cs (inl h) = simp length-take (omega (arith, h))
+taken_end n a cs (inr h) = simp length-take (omega (arith, h))
+
+-- blocks that all have an address
+module _ (first : ℕ) (bs : List (List ℕ)) (h : first + length bs < 4294967296) where
+  all_near : take (4294967295 - first) bs ≡ bs
+  all_near = take_all (4294967295 - first) bs (omega (arith, h))
+
+  pub near_puts : {M E : Type 0} {puts : M → ℕ → List ℕ → Result Unit E → M → Type 0} {s t : M} {r : Result Unit E} → Puts puts s first (take (4294967295 - first) bs) r t → Puts puts s first bs r t
+  near_puts {puts} {s} {t} {r} p = subst (λ (xs : List (List ℕ)). Puts puts s first xs r t) all_near p
+
+  pub near_finds : {M E : Type 0} {looks : M → ℕ → List ℕ → Result Bool E → M → Type 0} {s t : M} {r : Result Bool E} → Finds looks s first (take (4294967295 - first) bs) r t → Finds looks s first bs r t
+  near_finds {looks} {s} {t} {r} p = subst (λ (xs : List (List ℕ)). Finds looks s first xs r t) all_near p

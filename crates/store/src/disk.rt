@@ -1,4 +1,4 @@
-// A bare disk as a medium: nothing fails.
+// A bare disk as a medium: nothing fails but a block past its reach.
 ghost use Rattle.std.specs.Prelude.{◌≡◌};
 ghost use Rattle.block.specs.Blocks.{kind_of};
 ghost use Rattle.store.specs.Disks.{DiskPuts, DiskLooks};
@@ -20,12 +20,18 @@ impl Medium for Disk {
     ghost looks = { DiskLooks };
 
     fn put_block(&mut self, address: u32, block: &[u8; BLOCK]) -> Result<(), StoreError> {
+        if address >= self.reaches() {
+            return Err(StoreError::Full);
+        }
         let mut answer = [0u8; BLOCK];
         let _ = self.perform(&command(BlockOp::Write, address, block), &mut answer);
         Ok(())
     }
 
     fn has_block(&mut self, address: u32, block: &[u8; BLOCK]) -> Result<bool, StoreError> {
+        if address >= self.reaches() {
+            return Ok(false);
+        }
         let mut answer = [0u8; BLOCK];
         let _ = self.perform(&command(BlockOp::Read, address, &[]), &mut answer);
         Ok(&answer == block)

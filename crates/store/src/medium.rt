@@ -1,5 +1,5 @@
 // What keeps whole blocks.
-ghost use Rattle.std.specs.Prelude.{ℕ, Bool, ◌+◌, ◌<◌, ◌^◌, List, length, Result};
+ghost use Rattle.std.specs.Prelude.{ℕ, Bool, ◌-◌, List, take, Result};
 ghost use Rattle.store.specs.Media.{Puts, Finds};
 
 use crate::records::BLOCK;
@@ -20,13 +20,13 @@ pub trait Medium {
         ensures { looks self.old address block.now result self.new };
 }
 
-// Writes blocks from one on, up to the first that fails.
+// Writes blocks from one on, up to the first that fails; no medium has a block 2^32 - 1, so none is put there or behind.
 pub fn put_blocks<M: Medium>(
     medium: &mut M,
     first: u32,
     blocks: &[[u8; BLOCK]],
 ) -> Result<(), M::Error>
-    ensures { first + length blocks.now < 2 ^ 32 → Puts M.Medium.puts medium.old first blocks.now result medium.new }
+    ensures { Puts M.Medium.puts medium.old first (take (4294967295 - first) blocks.now) result medium.new }
 {
     for (address, block) in (first..u32::MAX).zip(blocks) {
         medium.put_block(address, block)?;
@@ -34,13 +34,13 @@ pub fn put_blocks<M: Medium>(
     Ok(())
 }
 
-// Whether blocks stand there from one on.
+// Whether blocks stand there from one on; none is looked for at 2^32 - 1 or behind.
 pub fn has_blocks<M: Medium>(
     medium: &mut M,
     first: u32,
     blocks: &[[u8; BLOCK]],
 ) -> Result<bool, M::Error>
-    ensures { first + length blocks.now < 2 ^ 32 → Finds M.Medium.looks medium.old first blocks.now result medium.new }
+    ensures { Finds M.Medium.looks medium.old first (take (4294967295 - first) blocks.now) result medium.new }
 {
     for (address, block) in (first..u32::MAX).zip(blocks) {
         if !medium.has_block(address, block)? {

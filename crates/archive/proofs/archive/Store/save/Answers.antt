@@ -1,4 +1,5 @@
 use Rattle.std.proofs.Common.{◌≡◌, ℕ, ◌+◌, length, Ok, Err, Result, sym, refl, ap, subst, arith}
+use Rattle.store.proofs.InTurn.{near_puts}
 use Rattle.std.proofs.lemmas.Result.{err_from_is_err_and}
 use Rattle.store.specs.Records.{blocks_for, padded}
 use Rattle.archive.specs.declared.archive.StoreError.{StoreError}
@@ -26,7 +27,7 @@ pub shape_of-self : goal.shape_of-self
 shape_of-self g c =
     let d = g.D.Driver in
     sym (puts_keep (λ m. m.driver.ghost_name) (λ m. d.ok m.driver.now) (λ m. d.state m.driver.now) (λ m. d.fault m.driver.now)
-    (c.put_blocks.ensures (in_reach c.args.self.now.next c.in_ok-record.record c.in_ok-record.ensures.safe c.blocks-2.ensures)))
+    (near_puts _ _ (in_reach c.args.self.now.next c.in_ok-record.record c.in_ok-record.ensures.safe c.blocks-2.ensures) c.put_blocks.ensures))
 
 pub returns-in_err-put_blocks : goal.returns-in_err-put_blocks
 returns-in_err-put_blocks g c =
@@ -38,7 +39,7 @@ returns-in_err-put_blocks g c =
     let p = err_from_is_err_and c.from_residual-in_err-put_blocks.result c.from_residual-in_err-put_blocks.ensures.1 in
     let w : d.ok c.args.self.now.driver → Ready s next frame x = λ o. ready (c.in_ok-record.ensures.room o) in
     let made = λ (o : d.ok c.args.self.now.driver). put_record next x c.in_ok-record.ensures.safe c.blocks-2.ensures _ c.put_blocks.new.medium (λ m. m.driver.ghost_name) (λ m. d.ok m.driver.now) (λ m. d.state m.driver.now) (λ m. d.fault m.driver.now)
-    (c.in_err-put_blocks.ensures (in_reach next x c.in_ok-record.ensures.safe c.blocks-2.ensures)) o (w o) in
+    (near_puts _ _ (in_reach next x c.in_ok-record.ensures.safe c.blocks-2.ensures) c.in_err-put_blocks.ensures) o (w o) in
     record {
       fine = λ o. (made o).0;
       saved = λ o. rw (p.1, p.2) (put_stops s next frame (w o).free (made o).1);
@@ -55,7 +56,7 @@ returns g c =
     let x = c.in_ok-record.record in
     let w : d.ok c.args.self.now.driver → Ready s next frame x = λ o. ready (c.in_ok-record.ensures.room o) in
     let made = λ (o : d.ok c.args.self.now.driver). put_record next x c.in_ok-record.ensures.safe c.blocks-2.ensures _ c.put_blocks.new.medium (λ m. m.driver.ghost_name) (λ m. d.ok m.driver.now) (λ m. d.state m.driver.now) (λ m. d.fault m.driver.now)
-    (c.in_ok-put_blocks.ensures (in_reach next x c.in_ok-record.ensures.safe c.blocks-2.ensures)) o (w o) in
+    (near_puts _ _ (in_reach next x c.in_ok-record.ensures.safe c.blocks-2.ensures) c.in_ok-put_blocks.ensures) o (w o) in
     record {
       fine = λ o. (made o).0;
       saved = λ o. put_saves s next frame (w o).free _ (ap (λ (k : ℕ). next + k) (w o).count) (made o).1;

@@ -1,4 +1,5 @@
 use Rattle.std.proofs.Common.{◌≡◌, ℕ, ◌+◌, Ok, Err, Result, sym, ap, ◌∙◌, arith}
+use Rattle.store.proofs.InTurn.{near_puts}
 use Rattle.std.proofs.lemmas.Bool.{cond-false, le-ltb}
 use Rattle.store.specs.declared.store.Store.{Store}
 use Rattle.store.specs.declared.store.StoreError.{StoreError}
@@ -12,7 +13,7 @@ returns-in_err-put_blocks c =
     let s = c.args.self.now in
     let t : Store = record { disk = c.put_blocks.new.medium; next = s.next } in
     let f = fits c.args.frame.now s.next (blocks_in s) c.in_ok-record.record c.reaches.result c.reaches.ensures.count c.in_ok-record.ensures in
-    let w = wrote s t c.args.frame.now c.in_ok-record.record c.blocks-2.result.now c.put_blocks.result f c.blocks-2.ensures c.put_blocks.ensures in
+    let w = wrote s t c.args.frame.now c.in_ok-record.record c.blocks-2.result.now c.put_blocks.result f c.blocks-2.ensures (λ h. near_puts _ _ h c.put_blocks.ensures) in
     let e : ◌≡◌ {A = Result Unit StoreError} (Err c.in_err-put_blocks.field-0.0) (Ok tt) = sym c.in_err-put_blocks.was ∙ w.0 in
     let z : ◌≡◌ {A = ℕ} 0 1 = cc in
     absurd (omega arith)
@@ -23,7 +24,7 @@ returns c =
     let x = c.in_ok-record.record in
     let t : Store = record { disk = c.put_blocks.new.medium; next = s.next + x.count } in
     let f = fits c.args.frame.now s.next (blocks_in s) x c.reaches.result c.reaches.ensures.count c.in_ok-record.ensures in
-    let w = (wrote s t c.args.frame.now x c.blocks-2.result.now c.put_blocks.result f c.blocks-2.ensures c.put_blocks.ensures).1 in
+    let w = (wrote s t c.args.frame.now x c.blocks-2.result.now c.put_blocks.result f c.blocks-2.ensures (λ h. near_puts _ _ h c.put_blocks.ensures)).1 in
     record {
       verdict = sym (cond-false _ _ _ (le-ltb _ _ f.short) ∙ cond-false _ _ _ (le-ltb _ _ f.within));
       bytes = wrote_bytes s t c.args.frame.now w;
