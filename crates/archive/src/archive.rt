@@ -8,7 +8,7 @@ use model::Refusal;
 use std::fmt;
 
 // Records one after the other from block 0, on the disk of a driver; `next` is the first block that is free. Beside the
-// store of a bare disk, which never fails: what the two share stands in the crate `store`.
+// store of a bare disk, which fails only past its reach: what the two share stands in the crate `store`.
 #[derive(Drop)]
 pub struct Store<D: Driver<C = Block>> {
     pub(crate) driver: D,

@@ -33,7 +33,9 @@ pub fn is_group(frame: &[u8]) -> bool
     frame.first().is_some_and(|first| first % 2 == 1)
 }
 
-// How far the place moves, and the next frame; level 0 passes over frames to a group.
+// How far the place moves, and the next frame; level 0 passes over frames to a group. The count stands beside the
+// Option, since what was passed over stays passed where no frame is found. That a frame has 14 to 1514 bytes stands in
+// two clauses (`short`), since a slice has no invariant of its own.
 pub fn next_frame(level: u32, bytes: &[u8]) -> (usize, Option<&[u8]>)
     ensures moved { result.0 ≡ (next_frame level bytes.now).moved }
     ensures frame { MatchOption result.1 ((next_frame level bytes.now).frame ≡ []) (λ frame. frame.now ≡ (next_frame level bytes.now).frame) }

@@ -20,7 +20,8 @@ use Rattle.entries.specs.declared.item.Item.{Item}
 use Rattle.entry_log.specs.Kinds.{membership_kind}
 use Rattle.entry_log.specs.Items.{noted, entries_of}
 use Rattle.entries.proofs.Updates.{entries_noted}
-use Rattle.heads.specs.Kept.{Kept, verdict, header_of, head_of, payload_of, fresh, weight as kept_weight}
+use Rattle.model.specs.Headers.{header_of}
+use Rattle.heads.specs.Kept.{Kept, verdict, head_of, payload_of, fresh, weight as kept_weight}
 use Rattle.heads.specs.declared.head.Head.{Head}
 use Rattle.driver.specs.States.{level, joined_count}
 use Rattle.driver.specs.Calls.{Call, Fallible, set, join, submit, collect, done}

@@ -1,6 +1,7 @@
 -- What a base driver holds, by its parts.
 use Rattle.std.specs.Prelude.{ℕ, true, false, List, [], map, Some, None, Option}
 use Rattle.model.specs.Requests.{Request, Contents}
+use Rattle.device.specs.declared.device.Device.{Ghosts}
 use Rattle.entry_log.specs.Items.{entries_of}
 use Rattle.queue.specs.Kept.{Kept}
 use Rattle.basis.specs.Views.{View}
@@ -18,6 +19,7 @@ module _ {C : Type 0} where
   holding reach contents (Some kept) =
       record { up = true; reach = reach; settings = entries_of kept.settings; roll = entries_of kept.roll; waiting = requests kept.queue; contents = contents }
 
-module _ {V C O : Type 0} (reach : V → ℕ) (contents : V → Contents) where
+module _ {V C O : Type 0} (device : Ghosts V C O) where
+  -- what a driver holds, by what its device says of itself
   abbrev pub view : BaseDriver V C O → View
-  view s = holding (reach s.device) (contents s.device) s.running
+  view s = holding (device.reach s.device) (device.contents s.device) s.running

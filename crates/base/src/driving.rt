@@ -28,8 +28,8 @@ fn low(x: u64) -> u32
 impl<V: Device> BaseDriver<V> {
     // A driver over a device, down.
     pub fn new(device: V) -> BaseDriver<V>
-        ensures fine { Ok V.C.Class.rules (view V.Device.reach V.Device.contents result) }
-        ensures state { meaning V.C.Class.rules (view V.Device.reach V.Device.contents result) ≡ bare V.C.Class.rules false (V.Device.reach device) (V.Device.contents device) }
+        ensures fine { Ok V.C.Class.rules (view V.Device result) }
+        ensures state { meaning V.C.Class.rules (view V.Device result) ≡ bare V.C.Class.rules false (V.Device.reach device) (V.Device.contents device) }
         ensures device { result.device ≡ device }
     {
         BaseDriver {
@@ -49,23 +49,23 @@ impl<V: Device> BaseDriver<V> {
 impl<V: Device> Driver for BaseDriver<V> {
     type C = V::C;
 
-    ghost state = { λ s. meaning V.C.Class.rules (view V.Device.reach V.Device.contents s) };
+    ghost state = { λ s. meaning V.C.Class.rules (view V.Device s) };
 
     ghost fault = { λ _. pair 1 0 };
 
-    ghost ok = { λ s. Ok V.C.Class.rules (view V.Device.reach V.Device.contents s) };
+    ghost ok = { λ s. Ok V.C.Class.rules (view V.Device s) };
 
-    ghost steps = { λ s c r t. Step V.C.Class.rules (view V.Device.reach V.Device.contents s) c r (view V.Device.reach V.Device.contents t) };
+    ghost steps = { λ s c r t. Step V.C.Class.rules (view V.Device s) c r (view V.Device t) };
 
-    ghost keeps = { λ s c r t o h. law V.C.Class.rules V.C.Class.bounds (view V.Device.reach V.Device.contents s) c r (view V.Device.reach V.Device.contents t) o h };
+    ghost keeps = { λ s c r t o h. law V.C.Class.rules V.C.Class.bounds (view V.Device s) c r (view V.Device t) o h };
 
-    ghost stays = { λ s c r t o h. stay V.C.Class.rules V.C.Class.bounds (view V.Device.reach V.Device.contents s) c r (view V.Device.reach V.Device.contents t) o h };
+    ghost stays = { λ s c r t o h. stay V.C.Class.rules V.C.Class.bounds (view V.Device s) c r (view V.Device t) o h };
 
-    ghost empty = { λ s o h. empties V.C.Class.rules (view V.Device.reach V.Device.contents s) o h };
+    ghost empty = { λ s o h. empties V.C.Class.rules (view V.Device s) o h };
 
-    ghost pairs = { λ s c a b t o h. paired V.C.Class.rules (view V.Device.reach V.Device.contents s) c a b (view V.Device.reach V.Device.contents t) h };
+    ghost pairs = { λ s c a b t o h. paired V.C.Class.rules (view V.Device s) c a b (view V.Device t) h };
 
-    ghost repeats = { λ s c a b t o d f h. paired V.C.Class.rules (view V.Device.reach V.Device.contents s) c a b (view V.Device.reach V.Device.contents t) h };
+    ghost repeats = { λ s c a b t o d f h. paired V.C.Class.rules (view V.Device s) c a b (view V.Device t) h };
 
     fn get(&self, key: u32) -> Result<u32, Refusal> {
         let running = self.running.as_ref().ok_or(DOWN)?;
@@ -96,10 +96,8 @@ impl<V: Device> Driver for BaseDriver<V> {
 
     fn set(&mut self, key: u32, value: u32) -> Result<(), Refusal> {
         let running = self.running.as_mut().ok_or(DOWN)?;
-        if !V::C::has_setting(u64::from(key)) {
-            return Err(Refusal::Setting);
-        }
-        if V::C::greatest(u64::from(key)) < u64::from(value) {
+        let range = V::C::range(u64::from(key)).ok_or(Refusal::Setting)?;
+        if range.greatest < value {
             return Err(Refusal::Value);
         }
         // no log has room for fewer entries than a class has settings

@@ -4,7 +4,7 @@ ghost use Rattle.std.specs.Prelude.{◌≡◌, ◌<◌, length};
 ghost use Rattle.device.specs.Performing.{Performed, outcome};
 ghost use Rattle.block.specs.Blocks.{block_rules, block_at};
 ghost use Rattle.block.specs.Disks.{reach_of, blocks_of, beyond};
-ghost use Rattle.block.specs.Memories.{stands_on};
+ghost use Rattle.block.specs.Memories.{stands_on, memory_of};
 
 use crate::class::Block;
 use crate::memory::Memory;
@@ -34,18 +34,28 @@ pub struct Disk<M = Vec<u8>> {
 // A disk over memory that is lent to it.
 pub type LentDisk<'a> = Disk<&'a mut [u8]>;
 
-impl<M: Memory> Disk<M> {
-    pub fn new(memory: M) -> Disk<M>
-        ensures { stands_on result ≡ memory }
+impl Disk<Vec<u8>> {
+    // A disk over memory of its own. `lent` differs in the memory alone: each has a clause about its own.
+    pub fn new(memory: Vec<u8>) -> Disk<Vec<u8>>
+        ensures { memory_of result ≡ memory.items }
     {
         Disk { memory }
     }
 
     // The memory, with the bytes beyond the reach as they were given.
-    pub fn into_memory(self) -> M
-        ensures { result ≡ stands_on self }
+    pub fn into_memory(self) -> Vec<u8>
+        ensures { result.items ≡ memory_of self }
     {
         self.memory
+    }
+}
+
+impl<'a> Disk<&'a mut [u8]> {
+    // A disk over memory that is lent to it, and that its owner has back afterwards.
+    pub fn lent(memory: &'a mut [u8]) -> LentDisk<'a>
+        ensures { (stands_on result).now ≡ memory.old }
+    {
+        LentDisk { memory }
     }
 }
 

@@ -4,6 +4,7 @@ ghost use Rattle.model.specs.Kinds.{read};
 ghost use Rattle.block.specs.Blocks.{kind_of, op_of, takes};
 ghost use Rattle.std.proofs.Common.{rules};
 
+use crate::disk::BLOCK;
 use model::{Operation, UnknownKind};
 
 #[derive(Clone, Copy, PartialEq, Eq, Debug)]
@@ -52,7 +53,7 @@ impl Operation for BlockOp {
     fn takes(self, size: usize) -> bool {
         match self {
             BlockOp::Read | BlockOp::Flush => size == 0,
-            BlockOp::Write => size == 512,
+            BlockOp::Write => size == BLOCK,
         }
     }
 

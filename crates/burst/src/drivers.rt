@@ -57,17 +57,12 @@ pub fn report_speaker<S: Driver<C = Sound>>(rt: &impl Print, speaker: &mut S) ->
     println!(rt; "speaker: {samples} samples, total {loudness}")
 }
 
-// The two counters of a device, through its driver; zeros where it does not answer. The kind is a number, since it is
-// the header's at once.
+// The two counters of a device, through its driver; zeros where it does not answer. The kind is a number: `trait
+// Operation` says nothing of a kind's number (no `Into<u8>`), so a kind as a type would be no plainer.
 fn counted<D: Driver>(driver: &mut D, kind: u8) -> (u32, u32)
     ensures { D.Driver.ok driver.old → Counts D.Driver.steps driver.old kind driver.new }
 {
-    let header = Header {
-        tag: 0,
-        kind,
-        address: 0,
-    };
     let mut answer = [0u8; ANSWER_LIMIT];
-    let _ = exchange(driver, header, &[], &mut answer);
+    let _ = exchange(driver, Header::of_kind(kind), &[], &mut answer);
     counters(&answer)
 }

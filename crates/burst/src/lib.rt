@@ -11,5 +11,5 @@ pub mod tally;
 pub use audit::{Shelf, count_stored};
 pub use drivers::{mend, report_speaker, report_wire, start};
 pub use lines::report_burst;
-pub use taking::take_frames;
+pub use taking::{take_burst, take_frames};
 pub use tally::Tally;

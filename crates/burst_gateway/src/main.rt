@@ -14,13 +14,14 @@ use piles::{DISK_BLOCKS, disk_pile, into_disk, planned, speaker_pile, wire_pile}
 use session::run;
 use std::io::Read;
 
+// The lines that are those of `gateway` too are one call each of what both share.
 fn main(rt: HostRuntime) -> anyhow::Result<()> {
     let failure = planned(&rt)?;
     let mut arrivals = Vec::new(rt.alloc());
     rt.stdin().read_to_end(&mut arrivals)?;
+    let memory = vec![in rt.alloc(); 0u8; DISK_BLOCKS * BLOCK]?;
     let wire = wire_pile(arrivals.clone()?, failure);
-    let disk = disk_pile(vec![in rt.alloc(); 0u8; DISK_BLOCKS * BLOCK]?);
-    let disk = run(&rt, wire, disk, speaker_pile(), &arrivals)?;
+    let disk = run(&rt, wire, disk_pile(memory), speaker_pile(), &arrivals)?;
     let mut driver = BaseDriver::new(into_disk(disk));
     let _ = driver.restart();
     let found = count_stored(&arrivals, &mut Store::new(driver));

@@ -1,4 +1,4 @@
-use block::{Block, BlockOp, Disk, LentDisk};
+use block::{Block, BlockOp, Disk};
 use device::{Command, Device};
 use model::Class;
 use std::test::Fail;
@@ -63,7 +63,7 @@ fn addresses(rt: HostRuntime) -> Result<(), Fail> {
 #[test]
 fn buffers(rt: HostRuntime) {
     let mut memory = [1u8; 512];
-    let mut disk = LentDisk::new(&mut memory);
+    let mut disk = Disk::lent(&mut memory);
     let mut short = [0u8; 511];
     let mut long = [0u8; 512];
     let read = at(BlockOp::Read, 0, &[]);

@@ -4,20 +4,21 @@ use network::Network;
 use sound::Sound;
 use std::process::Abort;
 
-// What a class is to say: of keys, their first and greatest values; of names; of kinds, whether there is
+// What a class is to say: of keys, their first and greatest values, or none; of names; of kinds, whether there is
 // such a kind and whether it is declared; of the kinds and sizes of payloads.
 #[derive(Clone, Copy, PartialEq, Eq, Debug)]
 struct Saying {
-    keys: [(u64, bool, u64, u64); 4],
+    keys: [(u64, Option<(u64, u64)>); 4],
     names: [(u32, bool); 4],
     kinds: [(u8, bool, bool); 5],
     sizes: [(u8, usize, bool); 4],
 }
 
 fn says<C: Class>(rt: &impl Abort, saying: Saying) {
-    for (key, has, initial, greatest) in saying.keys {
+    for (key, row) in saying.keys {
+        let (initial, greatest) = row.unwrap_or((0, 0));
         let said = (C::has_setting(key), C::initial(key), C::greatest(key));
-        assert_eq!(rt; said, (has, initial, greatest));
+        assert_eq!(rt; said, (row.is_some(), initial, greatest));
     }
     for (name, has) in saying.names {
         assert_eq!(rt; C::has_name(name), has);
@@ -37,10 +38,10 @@ fn block(rt: HostRuntime) {
         &rt,
         Saying {
             keys: [
-                (0, true, 0, 1),
-                (1, true, 8, 64),
-                (2, true, 0, 3600),
-                (3, false, 0, 0),
+                (0, Some((0, 1))),
+                (1, Some((8, 64))),
+                (2, Some((0, 3600))),
+                (3, None),
             ],
             names: [(0, true), (3, true), (4, false), (u32::MAX, false)],
             kinds: [
@@ -66,10 +67,10 @@ fn sound(rt: HostRuntime) {
         &rt,
         Saying {
             keys: [
-                (0, true, 256, 256),
-                (1, true, 2, 3),
-                (2, true, 100, 200),
-                (3, false, 0, 0),
+                (0, Some((256, 256))),
+                (1, Some((2, 3))),
+                (2, Some((100, 200))),
+                (3, None),
             ],
             names: [(0, true), (7, true), (8, false), (u32::MAX, false)],
             kinds: [
@@ -95,10 +96,10 @@ fn network(rt: HostRuntime) {
         &rt,
         Saying {
             keys: [
-                (0, true, 0, 1),
-                (1, true, 1514, 1514),
-                (2, true, 0, 1000),
-                (3, false, 0, 0),
+                (0, Some((0, 1))),
+                (1, Some((1514, 1514))),
+                (2, Some((0, 1000))),
+                (3, None),
             ],
             names: [
                 (0xDFFFFFFF, false),

@@ -1,4 +1,5 @@
-use device::{Command, Device};
+use crate::commands::at;
+use device::Device;
 use model::Class;
 use network::{
     Network, NetworkOp, Survey, Wire, count_frames, frames_in, is_group, next_frame, split_frame,
@@ -12,15 +13,6 @@ fn arrival(heap: Global, length: u16, bytes: usize, value: u8) -> Result<Vec<u8>
     let frame = vec![in heap; value; bytes]?;
     arrivals.extend_from_slice(&frame)?;
     Ok(arrivals)
-}
-
-fn at(level: u32, op: NetworkOp, payload: &[u8]) -> Command<'_> {
-    Command {
-        level,
-        kind: u8::from(op),
-        address: 0,
-        payload,
-    }
 }
 
 fn receive(wire: &mut Wire, level: u32, answer: &mut [u8]) -> usize {
@@ -105,9 +97,9 @@ fn runs(rt: HostRuntime) -> Result<(), Fail> {
         used: 34,
     };
     assert_eq!(rt; count_frames(&arrivals), seen);
-    let lengths = [14, 16];
+    // counted in the loop: `count` of a `filter` of frames, which have a lifetime, got no proof
     let mut groups = 0u32;
-    for (frame, length) in frames_in(&arrivals).zip(lengths) {
+    for (frame, length) in frames_in(&arrivals).zip([14, 16]) {
         assert_eq!(rt; frame.len(), length);
         if is_group(frame) {
             groups = groups.saturating_add(1);

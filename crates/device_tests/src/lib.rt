@@ -6,6 +6,8 @@ mod blocks;
 #[cfg(test)]
 mod classes;
 #[cfg(test)]
+mod commands;
+#[cfg(test)]
 mod frames;
 #[cfg(test)]
 mod refusals;

@@ -1,15 +1,7 @@
-use device::{Command, Device};
+use crate::commands::at;
+use device::Device;
 use model::Class;
 use sound::{Sound, SoundOp, Speaker};
-
-fn at(level: u32, op: SoundOp, payload: &[u8]) -> Command<'_> {
-    Command {
-        level,
-        kind: u8::from(op),
-        address: 0,
-        payload,
-    }
-}
 
 // The samples and the total that a speaker has after one payload at a level.
 fn after(level: u32, payload: &[u8]) -> [u8; 8] {

@@ -1,6 +1,6 @@
 -- What each answer of a driver's calls stands for: its number, and its values.
 use Rattle.std.specs.Prelude.{◌≡◌, ℕ, Bool, cond, List, [], take, Some, None, Ok, Err, Option, Result, ◌==◌}
-use Rattle.model.specs.Requests.{Request, onto}
+use Rattle.model.specs.Requests.{onto}
 use Rattle.model.specs.Rules.{Rules, has_setting}
 use Rattle.model.specs.Refusals.{code}
 use Rattle.model.specs.declared.refusal.Fault.{Fault}
@@ -10,7 +10,6 @@ use Rattle.driver.specs.States.{State, setting, membership}
 use Rattle.driver.specs.Calls.{Reply, accepted, done, lost, idle, notyet, failed, refused}
 use Rattle.driver.specs.declared.answers.Collected.{Collected}
 use Rattle.driver.specs.declared.answers.Collected.TheVariants.{Done, Lost, Idle, NotYet}
-use Rattle.model.specs.declared.header.Header.{Header}
 
 -- a refusal as a reply: FAILED with its pair, any other by its number
 abbrev pub refusal : Refusal → Reply
@@ -77,10 +76,6 @@ pair_of idle = None
 pair_of notyet = None
 pair_of (failed a b) = Some (pair a b)
 pair_of (refused n) = None
-
--- a header and a payload as a request
-abbrev pub request : Header → List ℕ → Request
-request h payload = record { tag = h.tag; kind = h.kind; address = h.address; payload = payload }
 
 -- what get answers, where f is the pair of a driver that is down
 abbrev pub value_of : Rules → State → Fault → ℕ → Result ℕ Refusal

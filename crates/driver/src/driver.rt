@@ -4,7 +4,8 @@ ghost use Rattle.model.specs.declared.refusal.Fault.{Fault};
 ghost use Rattle.driver.specs.States.{State, bare};
 ghost use Rattle.driver.specs.Calls.{Call, Reply, Fallible, set, join, leave, stop, submit, collect, restart, accepted, failed};
 ghost use Rattle.driver.specs.Rules.{Rule};
-ghost use Rattle.driver.specs.Replies.{plain, got, request, Framed, value_of, member_of, pair};
+ghost use Rattle.model.specs.Headers.{request_of};
+ghost use Rattle.driver.specs.Replies.{plain, got, Framed, value_of, member_of, pair};
 
 use crate::answers::{Collected, Header};
 use model::{Class, Refusal};
@@ -48,7 +49,7 @@ pub trait Driver {
 
     // A header is kept and compared, and its payload is lent for the call alone, so one struct of both would be no plainer.
     fn submit(&mut self, header: Header, payload: &[u8]) -> Result<(), Refusal>
-        ensures { ok self.old → steps self.old (submit (request header payload.now)) (plain result) self.new };
+        ensures { ok self.old → steps self.old (submit (request_of header payload.now)) (plain result) self.new };
 
     fn collect(&mut self, buffer: &mut [u8]) -> Result<Collected, Refusal>
         ensures step { ok self.old → steps self.old (collect (length buffer.old)) (got buffer.new result) self.new }

@@ -1,5 +1,6 @@
-// Which entries have been handed on. A queue has calls of the same names: each is one line over the generic ones of
-// `marks`, with a clause about its own list.
+// Which entries have been handed on. A queue has calls of the same names: all but `hand` are one line
+// over the generic ones of `marks`, with a clause about its own list. A generic `hand` would be as long, and need a
+// third definition of a list with one mark set.
 ghost use Rattle.std.specs.Prelude.{◌≡◌, ◌≤◌, false, not, map, length, count_by};
 ghost use Rattle.marks.specs.First.{firstFrom};
 ghost use Rattle.entry_log.specs.Items.{entries_of, marked, hand_at};

@@ -58,7 +58,8 @@ impl<D> Faulty<D> {
 }
 
 impl<D: Driver> Faulty<D> {
-    // A layer over a driver, down, with no call counted yet. Any number is a way, by a rule, so it becomes a `Way` here.
+    // A layer over a driver, down, with no call counted yet. `number` and `way` are two numbers by a rule, as a client
+    // plans them; any number is a way, so it becomes a `Way` here.
     pub fn new(below: D, number: u32, way: u32) -> Faulty<D>
         ensures value { result ≡ made (shut (pair 2 0)) (record { made = 0; number = number; way = way_of way }) below }
         ensures fine { D.Driver.ok below → LayerOk D.Driver.state D.Driver.ok result }
@@ -101,6 +102,8 @@ impl<D: Driver> Driver for Faulty<D> {
 
     ghost steps = { Steps D.Driver.steps };
 
+    // The laws of the driver below go one by one: the bound's record of them has no name that a definition in specs/
+    // could take, as its type is over every parameter and bound of the driver.
     ghost keeps = { λ s c r t o h. let d = D.Driver in Keeps.law D.C.Class.rules d.state d.ok d.steps d.keeps d.stays d.empty s c r t o h };
 
     ghost stays = { λ s c r t o h. let d = D.Driver in Keeps.stay D.C.Class.rules d.state d.ok d.steps d.keeps d.stays d.empty s c r t o h };

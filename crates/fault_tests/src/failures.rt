@@ -7,24 +7,26 @@ use model::{Fault, Refusal};
 use sound::Speaker;
 use std::test::Fail;
 
+// A request of kind 2, at address 0.
+const HEADER: Header = Header {
+    tag: 7,
+    kind: 2,
+    address: 0,
+};
+
 fn failed(place: u32) -> Refusal {
     Refusal::Failed(Fault { layer: 2, place })
 }
 
 // The counted calls in order: restart, set, join, leave, submit, collect; and what the driver then is.
 fn run<D: Driver>(driver: &mut D) -> Result<u32, Refusal> {
-    let header = Header {
-        tag: 7,
-        kind: 2,
-        address: 0,
-    };
     let mut buffer = [0u8; 8];
     driver.restart()?;
     let _ = driver.joined(9);
     driver.set(1, 1)?;
     driver.join(0)?;
     driver.leave(0)?;
-    driver.submit(header, &[])?;
+    driver.submit(HEADER, &[])?;
     let _ = driver.collect(&mut buffer)?;
     driver.get(1)
 }
@@ -49,16 +51,11 @@ fn each_call(rt: HostRuntime) {
 // A collect that fails in way 0 is not made below; in another way it is, and the buffer stays as it was.
 #[test]
 fn dropped_answer(rt: HostRuntime) -> Result<(), Fail> {
-    let header = Header {
-        tag: 7,
-        kind: 2,
-        address: 0,
-    };
     for (way, written) in [(0u32, 0u8), (1, 5)] {
         let disk = Disk::new(vec![in rt.alloc(); 0u8; 512]?);
         let mut driver = Faulty::new(BaseDriver::new(disk), 3, way);
         assert_eq!(rt; driver.restart(), Ok(()));
-        assert_eq!(rt; driver.submit(header, &[5u8; 512]), Ok(()));
+        assert_eq!(rt; driver.submit(HEADER, &[5u8; 512]), Ok(()));
         let mut buffer = [9u8; 512];
         assert!(rt; driver.collect(&mut buffer).is_err());
         assert_eq!(rt; buffer[0], 9);

@@ -2,6 +2,7 @@
 use Rattle.std.specs.Prelude.{ℕ, zero, suc, ◌+◌, Bool, true, false, cond, List, [], ◌∷◌, length, Ok, Err, sum_by, Result, nat_le, nat_lt}
 use Rattle.model.specs.Requests.{Request}
 use Rattle.model.specs.declared.header.Header.{Header}
+use Rattle.model.specs.Headers.{request_of, header_of}
 use Rattle.model.specs.declared.refusal.Refusal.{Refusal}
 use Rattle.model.specs.declared.refusal.Refusal.TheVariants.{Full, Room}
 use Rattle.heads.specs.Limits.{most, capacity}
@@ -11,13 +12,6 @@ use Rattle.heads.specs.declared.head.Head.{Head}
 pub record Kept : Type 0 where
   pub request : Request
   pub handed : Bool
-
--- a header and a payload as a request, and its header again
-abbrev pub request_of : Header → List ℕ → Request
-request_of h p = record { tag = h.tag; kind = h.kind; address = h.address; payload = p }
-
-abbrev pub header_of : Request → Header
-header_of q = record { tag = q.tag; kind = q.kind; address = q.address }
 
 -- a request as it is added: not handed on yet
 abbrev pub fresh : Header → List ℕ → Kept

@@ -1,6 +1,7 @@
 -- How heads and bytes say what is kept.
 use Rattle.std.specs.Prelude.{ℕ, List, [], ◌∷◌, take, drop}
-use Rattle.heads.specs.Kept.{Kept, request_of}
+use Rattle.model.specs.Headers.{request_of}
+use Rattle.heads.specs.Kept.{Kept}
 use Rattle.heads.specs.declared.head.Head.{Head}
 
 -- the request of a head, with the payload at the front of the bytes

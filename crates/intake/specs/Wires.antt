@@ -12,17 +12,10 @@ use Rattle.exchange.specs.Hearing.{heard_of}
 use Rattle.exchange.specs.declared.silence.Silence.{Silence}
 use Rattle.exchange.specs.declared.silence.Silence.TheVariants.{Unanswered}
 use Rattle.reply.specs.Replies.{reply_to}
-use Rattle.network.specs.Networks.{kind_of}
-use Rattle.network.specs.declared.op.NetworkOp.{NetworkOp}
-use Rattle.model.specs.declared.header.Header.{Header}
 
 -- the first bytes of a buffer, if there are that many, and any
 abbrev pub front : List ℕ → ℕ → Option (Bor (List ℕ)) → Type 0
 front xs n r = option_map (λ y. y.now) r ≡ cond (nat_lt 0 n && nat_le n (length xs)) (Some (take n xs)) None
-
--- the header of a request of a kind
-abbrev pub header_of : NetworkOp → Header
-header_of op = record { tag = 0; kind = kind_of op; address = 0 }
 
 -- the request for the next frame
 abbrev pub receiving : Request

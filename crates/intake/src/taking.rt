@@ -20,11 +20,7 @@ fn announce<S: Driver<C = Sound>>(speaker: &mut S, tone: &[u8])
     ensures fine { S.Driver.ok speaker.old → S.Driver.ok speaker.new }
     ensures calls { S.Driver.ok speaker.old → Announced S.Driver.steps speaker.old tone.now speaker.new }
 {
-    let header = Header {
-        tag: 0,
-        kind: u8::from(SoundOp::Play),
-        address: 0,
-    };
+    let header = Header::of_kind(u8::from(SoundOp::Play));
     let mut answer = [0u8; Sound::LONGEST_ANSWER];
     let _ = exchange(speaker, header, tone, &mut answer);
 }
@@ -43,6 +39,7 @@ impl<N: Driver<C = Network>, B: Driver<C = Block>, S: Driver<C = Sound>> Intake<
             speaker,
         }
     }
+
     // The wire, the store and the speaker, as they are.
     pub fn into_parts(self) -> (N, Store<B>, S)
         ensures { result ≡ (self.wire, self.store, self.speaker) }
@@ -59,6 +56,7 @@ impl<N: Driver<C = Network>, B: Driver<C = Block>, S: Driver<C = Sound>> Intake<
         ensures shelved { B.Driver.ok self.old.store.driver → Shelved (B.Driver.state self.old.store.driver) self.old.store.next buffer.new (B.Driver.fault self.new.store.driver) result (B.Driver.state self.new.store.driver) self.new.store.next }
         ensures keeps { B.Driver.ok self.old.store.driver → Keeps self.old.store.next (B.Driver.state self.old.store.driver) (B.Driver.state self.new.store.driver) }
     {
+        // each early end is an event of its own, and no error that `?` could pass on
         let size = match receive(&mut self.wire, buffer) {
             Ok(size) => size,
             Err(silence) => return Event::Silent(silence),

@@ -1,6 +1,6 @@
 // Frames on the wire.
 ghost use Rattle.std.specs.Prelude.{◌≡◌};
-ghost use Rattle.intake.specs.Wires.{front, header_of, Received, Acknowledged};
+ghost use Rattle.intake.specs.Wires.{front, Received, Acknowledged};
 
 use driver::{Driver, Header};
 use exchange::{Silence, ask};
@@ -16,16 +16,6 @@ pub(crate) fn arrived(buffer: &[u8], size: usize) -> Option<&[u8]>
     if size == 0 { None } else { buffer.get(..size) }
 }
 
-fn header(op: NetworkOp) -> Header
-    ensures { result ≡ header_of op }
-{
-    Header {
-        tag: 0,
-        kind: u8::from(op),
-        address: 0,
-    }
-}
-
 // Asks the wire for the next frame, and says how many bytes it has.
 pub(crate) fn receive<N: Driver<C = Network>>(
     wire: &mut N,
@@ -34,7 +24,12 @@ pub(crate) fn receive<N: Driver<C = Network>>(
     ensures fine { N.Driver.ok wire.old → N.Driver.ok wire.new }
     ensures calls { N.Driver.ok wire.old → Received N.Driver.steps wire.old buffer.old buffer.new result wire.new }
 {
-    ask(wire, header(NetworkOp::Receive), &[], buffer)
+    ask(
+        wire,
+        Header::of_kind(u8::from(NetworkOp::Receive)),
+        &[],
+        buffer,
+    )
 }
 
 // Gives the acknowledgement of a frame to the wire.
@@ -44,6 +39,11 @@ pub(crate) fn acknowledge<N: Driver<C = Network>>(wire: &mut N, frame: &[u8]) ->
 {
     let reply = acknowledgement(frame).ok_or(Silence::Unanswered)?;
     let mut answer = [0u8; LONGEST_FRAME];
-    ask(wire, header(NetworkOp::Send), &reply, &mut answer)?;
+    ask(
+        wire,
+        Header::of_kind(u8::from(NetworkOp::Send)),
+        &reply,
+        &mut answer,
+    )?;
     Ok(())
 }

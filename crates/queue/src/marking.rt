@@ -1,5 +1,6 @@
-// The marks of the requests: which have been handed on. A log has calls of the same names: each is one line over the
-// generic ones of `marks`, with a clause about its own list.
+// The marks of the requests: which have been handed on. A log has calls of the same names: all but `hand` are one line
+// over the generic ones of `marks`, with a clause about its own list. A generic `hand` would be as long, and need a
+// third definition of a list with one mark set.
 ghost use Rattle.std.specs.Prelude.{◌≡◌, ◌≤◌, false, not, map, count_by};
 ghost use Rattle.marks.specs.First.{firstFrom};
 ghost use Rattle.heads.specs.Limits.{most};

@@ -5,6 +5,7 @@ use queue::{Head, Queue};
 use std::process::Abort;
 use std::test::*;
 
+// No class has a longer payload: a frame to send.
 const LONGEST: usize = 1514;
 
 // A number that looks random, from the one before it.

@@ -7,12 +7,15 @@ use crate::store::StoreError;
 pub use arrivals::LONGEST_FRAME;
 pub use block::BLOCK;
 
+// The bytes of the longest record: its length and frame take three blocks.
+const RECORD: usize = 3 * BLOCK;
+
 // The record of a frame: its blocks, with zeros behind them, and how many they are. An array with a count, in fixed
 // memory by a rule: the zeros come with it, and `blocks` gives those that count.
 #[derive(Clone, Copy, PartialEq, Eq, Debug)]
 pub struct Record {
     pub count: u32,
-    pub bytes: [u8; 1536],
+    pub bytes: [u8; RECORD],
 }
 
 impl Record {
@@ -33,7 +36,7 @@ pub fn record_of(frame: &[u8]) -> Option<Record>
         return None;
     }
     let size = frame.len();
-    let mut bytes = [0u8; 1536];
+    let mut bytes = [0u8; RECORD];
     let [high, low] = (size as u16).to_be_bytes();
     // one by one: with `copy_from_slice` of both the proof did not close
     bytes[0] = high;

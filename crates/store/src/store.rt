@@ -4,7 +4,8 @@ ghost use Rattle.std.specs.Prelude.{◌≡◌};
 use block::Disk;
 
 // Records one after the other from block 0; `next` is the first block that is free. Beside archive's store, since a
-// bare disk never fails: what the two share is `fitted`, `put_blocks` and `has_blocks`, and each call is a few lines.
+// bare disk fails only past its reach: what the two share is `fitted`, `put_blocks` and `has_blocks`, and each call is
+// a few lines.
 #[derive(Drop)]
 pub struct Store {
     pub(crate) disk: Disk,

@@ -15,7 +15,7 @@ returns-in_err-reply-clause-calls g c o =
 pub returns-in_err-ask-clause-calls : goal.returns-in_err-ask-clause-calls
 returns-in_err-ask-clause-calls g c o =
     let p = err_from_is_err_and c.from_residual-in_err-ask.result c.from_residual-in_err-ask.ensures.1 in
-    rw (p.1, p.2) (sent_by c.header.ensures (sym c.acknowledgement.ensures ∙ c.in_ok-reply.ensures.ok_part) (omega arith) (c.in_err-ask.ensures.heard o))
+    rw (p.1, p.2) (sent_by (rw c.from.ensures at c.of_kind.ensures) (sym c.acknowledgement.ensures ∙ c.in_ok-reply.ensures.ok_part) (omega arith) (c.in_err-ask.ensures.heard o))
 
 pub returns-clause-calls : goal.returns-clause-calls
-returns-clause-calls g c o = sent_by c.header.ensures (sym c.acknowledgement.ensures ∙ c.in_ok-reply.ensures.ok_part) (omega arith) (c.in_ok-ask.ensures.heard o)
+returns-clause-calls g c o = sent_by (rw c.from.ensures at c.of_kind.ensures) (sym c.acknowledgement.ensures ∙ c.in_ok-reply.ensures.ok_part) (omega arith) (c.in_ok-ask.ensures.heard o)
