@@ -25,8 +25,8 @@ const ALL: [(Refusal, &str); 13] = [
 #[test]
 fn numbers(rt: HostRuntime) {
     for (number, (refusal, _)) in (1u32..).zip(ALL) {
-        assert_eq!(rt; u32::from(refusal), number);
-        assert_eq!(rt; refusal.fault().is_some(), number == 1);
+        let told = (u32::from(refusal), refusal.fault().is_some());
+        assert_eq!(rt; told, (number, number == 1));
     }
     assert_eq!(rt; ALL.len(), 13);
 }

@@ -15,31 +15,32 @@ fn after(level: u32, payload: &[u8]) -> [u8; 8] {
 // Half the volume rounds toward zero, sample by sample.
 #[test]
 fn rounding(rt: HostRuntime) {
-    assert_eq!(rt;
-        after(128, &[0xFD, 0xFF]),
-        [1, 0, 0, 0, 0xFF, 0xFF, 0xFF, 0xFF]
-    );
-    assert_eq!(rt; after(128, &[3, 0]), [1, 0, 0, 0, 1, 0, 0, 0]);
-    assert_eq!(rt; after(128, &[3, 0, 0xFD, 0xFF]), [2, 0, 0, 0, 0, 0, 0, 0]);
-    assert_eq!(rt;
-        after(256, &[0x00, 0x80]),
-        [1, 0, 0, 0, 0x00, 0x80, 0xFF, 0xFF]
-    );
-    assert_eq!(rt;
-        after(0, &[0x34, 0x12]),
-        [1, 0, 0, 0, 0, 0, 0, 0],
-        "silence counts"
-    );
+    let table: [(u32, &[u8], [u8; 8]); 5] = [
+        (128, &[0xFD, 0xFF], [1, 0, 0, 0, 0xFF, 0xFF, 0xFF, 0xFF]),
+        (128, &[3, 0], [1, 0, 0, 0, 1, 0, 0, 0]),
+        (128, &[3, 0, 0xFD, 0xFF], [2, 0, 0, 0, 0, 0, 0, 0]),
+        (256, &[0x00, 0x80], [1, 0, 0, 0, 0x00, 0x80, 0xFF, 0xFF]),
+        // silence counts
+        (0, &[0x34, 0x12], [1, 0, 0, 0, 0, 0, 0, 0]),
+    ];
+    for (level, payload, told) in table {
+        assert_eq!(rt; after(level, payload), told);
+    }
 }
 
 // What the class excludes plays nothing.
 #[test]
 fn excluded(rt: HostRuntime) {
-    assert_eq!(rt; after(257, &[3, 0]), [0; 8]);
-    assert_eq!(rt; after(128, &[3, 0, 1]), [0; 8]);
-    assert_eq!(rt; after(128, &[]), [0; 8]);
+    let table: [(u32, &[u8]); 4] = [
+        (257, &[3, 0]),
+        (128, &[3, 0, 1]),
+        (128, &[]),
+        (256, &[1; 1026]),
+    ];
+    for (level, payload) in table {
+        assert_eq!(rt; after(level, payload), [0; 8]);
+    }
     assert_eq!(rt; after(256, &[1; 1024])[0..2] == [0, 2], true);
-    assert_eq!(rt; after(256, &[1; 1026]), [0; 8]);
 }
 
 #[test]
@@ -48,7 +49,10 @@ fn class(rt: HostRuntime) {
         (Sound::initial(0), Sound::greatest(1), Sound::initial(2)),
         (256, 3, 100)
     );
-    assert!(rt; Sound::has_name(7) && !Sound::has_name(8));
-    assert!(rt; Sound::has_kind(2) && !Sound::has_kind(3));
-    assert!(rt; !Sound::is_declared(1) && Sound::is_declared(2));
+    let has = (
+        [7, 8].map(|name| Sound::has_name(name)),
+        [2, 3].map(|kind| Sound::has_kind(kind)),
+        [1, 2].map(|kind| Sound::is_declared(kind)),
+    );
+    assert_eq!(rt; has, ([true, false], [true, false], [false, true]));
 }

@@ -37,13 +37,13 @@ fn each_call(rt: HostRuntime) {
     for call in 1..7u32 {
         for way in 0..2u32 {
             let mut driver = Faulty::new(BaseDriver::new(Speaker::new()), call, way);
-            assert_eq!(rt; driver.get(0), Err(failed(0)));
-            assert_eq!(rt; run(&mut driver), Err(failed(call)));
-            assert_eq!(rt; driver.set(0, 0), Err(failed(call)));
-            assert_eq!(rt; driver.waiting(), 0);
+            let fails = [driver.get(0), run(&mut driver)];
+            assert_eq!(rt; fails, [Err(failed(0)), Err(failed(call))]);
+            let down = (driver.set(0, 0), driver.waiting());
+            assert_eq!(rt; down, (Err(failed(call)), 0));
             driver.stop();
-            assert_eq!(rt; driver.join(0), Err(failed(0)));
-            assert_eq!(rt; run(&mut driver), Ok(1));
+            let back = (driver.join(0), run(&mut driver));
+            assert_eq!(rt; back, (Err(failed(0)), Ok(1)));
         }
     }
 }
@@ -54,11 +54,11 @@ fn dropped_answer(rt: HostRuntime) -> Result<(), Fail> {
     for (way, written) in [(0u32, 0u8), (1, 5)] {
         let disk = Disk::new(vec![in rt.alloc(); 0u8; 512]?);
         let mut driver = Faulty::new(BaseDriver::new(disk), 3, way);
-        assert_eq!(rt; driver.restart(), Ok(()));
-        assert_eq!(rt; driver.submit(HEADER, &[5u8; 512]), Ok(()));
+        let started = [driver.restart(), driver.submit(HEADER, &[5u8; 512])];
+        assert_eq!(rt; started, [Ok(()); 2]);
         let mut buffer = [9u8; 512];
-        assert!(rt; driver.collect(&mut buffer).is_err());
-        assert_eq!(rt; buffer[0], 9);
+        let failing = driver.collect(&mut buffer).is_err();
+        assert_eq!(rt; (failing, buffer[0]), (true, 9));
         assert_eq!(rt; driver.get(0), Err(failed(3)));
         let memory = driver.into_below().into_device().into_memory();
         assert_eq!(rt; memory.first().copied(), Some(written));
@@ -71,8 +71,8 @@ fn dropped_answer(rt: HostRuntime) -> Result<(), Fail> {
 fn last_number(rt: HostRuntime) {
     let below = BaseDriver::new(Speaker::new());
     let mut last = Faulty::counted_from(below, 4294967294, 4294967295, 0);
-    assert_eq!(rt; last.restart(), Err(failed(4294967295)));
-    assert_eq!(rt; run(&mut last), Ok(1));
+    let told = (last.restart(), run(&mut last));
+    assert_eq!(rt; told, (Err(failed(4294967295)), Ok(1)));
     let below = BaseDriver::new(Speaker::new());
     let mut never = Faulty::counted_from(below, 4294967295, 0, 0);
     assert_eq!(rt; run(&mut never), Ok(1));
@@ -83,9 +83,8 @@ fn last_number(rt: HostRuntime) {
 fn passed_whole(rt: HostRuntime) {
     let inner = Faulty::new(BaseDriver::new(Speaker::new()), 2, 1);
     let mut driver = Faulty::new(inner, 9, 0);
-    assert_eq!(rt; driver.restart(), Ok(()));
-    assert_eq!(rt; driver.set(0, 1), Err(failed(2)));
-    assert_eq!(rt; driver.get(0), Err(failed(2)));
-    assert_eq!(rt; driver.restart(), Ok(()));
-    assert_eq!(rt; driver.get(0), Ok(256));
+    let calls = [driver.restart(), driver.set(0, 1)];
+    assert_eq!(rt; calls, [Ok(()), Err(failed(2))]);
+    let level = (driver.get(0), driver.restart(), driver.get(0));
+    assert_eq!(rt; level, (Err(failed(2)), Ok(()), Ok(256)));
 }

@@ -12,14 +12,17 @@ fn the_last_byte_fits(rt: HostRuntime) -> Result<(), Fail> {
     for tag in 0..5 {
         assert_eq!(rt; q.push(header(tag, 1, 0), &frame), Ok(()));
     }
-    assert_eq!(rt; q.push(header(5, 1, 0), &rest), Err(Refusal::Room));
-    assert_eq!(rt; q.len(), 5);
-    assert_eq!(rt; q.push(header(5, 1, 0), &rest[0..622]), Ok(()));
-    assert_eq!(rt; q.used(), CAPACITY);
-    assert_eq!(rt; q.push(header(6, 1, 0), &rest[0..1]), Err(Refusal::Room));
-    assert_eq!(rt;
+    let one_byte_more = (q.push(header(5, 1, 0), &rest), q.len());
+    assert_eq!(rt; one_byte_more, (Err(Refusal::Room), 5));
+    let last_bytes = (q.push(header(5, 1, 0), &rest[0..622]), q.used());
+    assert_eq!(rt; last_bytes, (Ok(()), CAPACITY));
+    let more = [
+        q.push(header(6, 1, 0), &rest[0..1]),
         q.push(header(6, 1, 0), &rest[0..0]),
-        Ok(()),
+    ];
+    assert_eq!(rt;
+        more,
+        [Err(Refusal::Room), Ok(())],
         "an empty payload always has room"
     );
     Ok(())
@@ -32,11 +35,16 @@ fn full_comes_before_room(rt: HostRuntime) -> Result<(), Fail> {
     for tag in 0..15 {
         assert_eq!(rt; q.push(header(tag, 2, tag), &payload), Ok(()));
     }
-    assert_eq!(rt; q.push(header(15, 2, 0), &[0; 513]), Err(Refusal::Room));
-    assert_eq!(rt; q.push(header(15, 2, 0), &payload), Ok(()));
-    assert_eq!(rt; q.len(), MOST);
-    assert_eq!(rt; q.push(header(16, 2, 0), &payload), Err(Refusal::Full));
-    assert_eq!(rt; q.push(header(16, 2, 0), &[]), Err(Refusal::Full));
+    let last = [
+        q.push(header(15, 2, 0), &[0; 513]),
+        q.push(header(15, 2, 0), &payload),
+    ];
+    assert_eq!(rt; (last, q.len()), ([Err(Refusal::Room), Ok(())], MOST));
+    let more = [
+        q.push(header(16, 2, 0), &payload),
+        q.push(header(16, 2, 0), &[]),
+    ];
+    assert_eq!(rt; more, [Err(Refusal::Full); 2]);
     q.pop();
     assert_eq!(rt; q.push(header(16, 2, 0), &payload), Ok(()));
     Ok(())
@@ -45,20 +53,17 @@ fn full_comes_before_room(rt: HostRuntime) -> Result<(), Fail> {
 #[test]
 fn past_the_end(rt: HostRuntime) -> Result<(), Fail> {
     let mut q = Queue::new();
-    assert_eq!(rt; q.front(), None);
+    let front = q.front();
     q.pop();
     q.hand(0);
-    assert_eq!(rt; q.len(), 0);
-    assert_eq!(rt; q.push(header(9, 3, 5), b"abc"), Ok(()));
-    assert_eq!(rt; q.request(1), None);
-    assert!(rt; q.payload(1).is_none());
-    assert!(rt; q.payload(usize::MAX).is_none());
+    assert_eq!(rt; (front, q.len()), (None, 0));
+    let one = (q.push(header(9, 3, 5), b"abc"), q.request(1));
+    assert_eq!(rt; one, (Ok(()), None));
+    assert_eq!(rt; [q.payload(1), q.payload(usize::MAX)], [None; 2]);
     q.hand(1);
     q.hand(usize::MAX);
     assert_eq!(rt; q.unhanded(), 1);
     q.clear();
-    assert_eq!(rt; q.len(), 0);
-    assert_eq!(rt; q.used(), 0);
-    assert_eq!(rt; q.front(), None);
+    assert_eq!(rt; (q.len(), q.used(), q.front()), (0, 0, None));
     Ok(())
 }

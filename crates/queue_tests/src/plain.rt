@@ -80,10 +80,9 @@ impl PlainQueue {
         }
         let unhanded = self.list.iter().filter(|plain| !plain.head.handed);
         let first = self.list.iter().position(|plain| !plain.head.handed);
-        assert_eq!(rt; q.len(), self.list.len());
-        assert_eq!(rt; q.used(), self.used());
-        assert_eq!(rt; q.unhanded(), unhanded.count());
-        assert_eq!(rt; q.first_unhanded(), first);
+        let told = (q.len(), q.used(), q.unhanded(), q.first_unhanded());
+        let is = (self.list.len(), self.used(), unhanded.count(), first);
+        assert_eq!(rt; told, is);
         Ok(())
     }
 }
