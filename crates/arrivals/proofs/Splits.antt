@@ -1,8 +1,9 @@
 -- What is known of arrivals once their first frame is split off.
-use Rattle.std.proofs.Common.{◌≡◌, ℕ, zero, suc, ◌+◌, ◌*◌, ◌≤◌, true, false, cond, leb, List, [], ◌∷◌, length, take, drop, Some, None, sym, refl, ap, ◌∙◌, ⊎_elim, arith, length-drop, drop-drop}
+use Rattle.std.proofs.Common.{◌≡◌, ℕ, zero, suc, ◌+◌, ◌*◌, ◌≤◌, true, false, cond, leb, List, [], ◌∷◌, length, take, drop, Some, None, Option, sym, refl, ap, ◌∙◌, ⊎_elim, arith, length-drop, drop-drop}
 use Rattle.std.proofs.lemmas.Bool.{cond-true, cond-false, cases_Bool, and_parts, and_from, eq-eqb, not_from_true, not_from_false, leb-true}
 use Rattle.std.proofs.lemmas.List.{length-take-le}
 use Rattle.std.proofs.lemmas.Option.{none-some, cond_some}
+use Rattle.std.specs.Option.{unwrap_or}
 use Rattle.arrivals.specs.Frames.{Found, ended, seek, usable, passes, to_group, split, arrival, next_frame}
 use Rattle.arrivals.specs.Runs.{frames_from, frames_of, taken}
 use Rattle.arrivals.specs.Surveys.{survey_from, survey_of, counted, nothing}
@@ -130,6 +131,17 @@ pub taken_first : (level : ℕ) (bytes frame rest : List ℕ) → Splits bytes f
     → taken level (frames_of bytes) ≡ frame ∷ taken level (frames_of (drop (2 + length frame) bytes))
 taken_first level bytes frame rest s p =
     rw (← s.rest_is) (ap (taken level) s.frames ∙ cond-true _ _ _ (not_from_false _ p))
+
+-- it is the next one
+pub first_found : (level : ℕ) (bytes frame rest : List ℕ) → Splits bytes frame rest → passes level frame ≡ false
+    → next_frame level bytes ≡ record { moved = 2 + length frame; frame = frame }
+first_found level bytes frame rest s p = s.found level ∙ cond-false _ _ _ p
+
+-- a frame that is split off in two ways is one
+pub split_once : (level : ℕ) (bytes frame rest : List ℕ) → split bytes ≡ Some (frame, rest) → passes level frame ≡ false
+    → (frame' rest' : List ℕ) → split bytes ≡ Some (frame', rest') → passes level frame' ≡ false
+split_once level bytes frame rest e p frame' rest' e' =
+    ap (λ (o : Option (List ℕ × List ℕ)). passes level (unwrap_or o (frame, rest)).0) (sym e' ∙ e) ∙ p
 
 pub left_later : (bytes frame rest : List ℕ) → Splits bytes frame rest → (moved : ℕ) → drop (2 + length frame + moved) bytes ≡ drop moved rest
 left_later bytes frame rest s moved = rw s.rest_is (sym (drop-drop moved (2 + length frame) bytes))

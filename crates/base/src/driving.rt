@@ -96,7 +96,7 @@ impl<V: Device> Driver for BaseDriver<V> {
 
     fn set(&mut self, key: u32, value: u32) -> Result<(), Refusal> {
         let running = self.running.as_mut().ok_or(DOWN)?;
-        let range = V::C::range(u64::from(key)).ok_or(Refusal::Setting)?;
+        let range = V::C::row(u64::from(key)).ok_or(Refusal::Setting)?;
         if range.greatest < value {
             return Err(Refusal::Value);
         }

@@ -11,8 +11,16 @@ use reply::counters;
 use sound::{Sound, SoundOp};
 use std::io;
 
-// Starts a driver, and says whether it is up; a refusal is told under the name of the call.
-pub fn start<D: Driver>(rt: &impl Print, call: &str, driver: &mut D) -> io::Result<bool>
+// Starts a driver, and says whether it is up; a refusal is told as that of a restart.
+pub fn start<D: Driver>(rt: &impl Print, driver: &mut D) -> io::Result<bool>
+    ensures fine { D.Driver.ok driver.old → D.Driver.ok driver.new }
+    ensures calls { IfOk result (λ b. D.Driver.ok driver.old → Restarted D.Driver.steps driver.old b driver.new) }
+{
+    start_as(rt, "restart", driver)
+}
+
+// The same, with the name under which a refusal is told.
+pub fn start_as<D: Driver>(rt: &impl Print, call: &str, driver: &mut D) -> io::Result<bool>
     ensures fine { D.Driver.ok driver.old → D.Driver.ok driver.new }
     ensures calls { IfOk result (λ b. D.Driver.ok driver.old → Restarted D.Driver.steps driver.old b driver.new) }
 {
@@ -37,24 +45,57 @@ pub fn mend<N: Driver<C = Network>>(rt: &impl Print, wire: &mut N) -> io::Result
     let reach = wire.reach();
     report_refusal(rt, "get", refusal)?;
     println!(rt; "network: down, waiting {waiting}, reach {reach}")?;
-    let _ = start(rt, "restart", wire)?;
+    let _ = start(rt, wire)?;
     Ok(())
+}
+
+// Tells the counters of the wire and of the speaker; both are asked, each through its driver, before a line is printed.
+pub fn report_counters<N: Driver<C = Network>, S: Driver<C = Sound>>(
+    rt: &impl Print,
+    wire: &mut N,
+    speaker: &mut S,
+) -> io::Result<()>
+    ensures wire { N.Driver.ok wire.old → Counts N.Driver.steps wire.old 3 wire.new }
+    ensures speaker { S.Driver.ok speaker.old → Counts S.Driver.steps speaker.old 2 speaker.new }
+{
+    let of_wire = counted_on_wire(wire);
+    let of_speaker = counted_on_speaker(speaker);
+    tell_wire(rt, of_wire)?;
+    tell_speaker(rt, of_speaker)
 }
 
 // Tells the counters of the wire, asked through its driver.
 pub fn report_wire<N: Driver<C = Network>>(rt: &impl Print, wire: &mut N) -> io::Result<()>
     ensures { N.Driver.ok wire.old → Counts N.Driver.steps wire.old 3 wire.new }
 {
-    let (sent, total) = counted(wire, u8::from(NetworkOp::Counters));
-    println!(rt; "wire: {sent} frames sent, byte total {total}")
+    tell_wire(rt, counted_on_wire(wire))
 }
 
 // Tells the counters of the speaker, asked through its driver.
 pub fn report_speaker<S: Driver<C = Sound>>(rt: &impl Print, speaker: &mut S) -> io::Result<()>
     ensures { S.Driver.ok speaker.old → Counts S.Driver.steps speaker.old 2 speaker.new }
 {
-    let (samples, loudness) = counted(speaker, u8::from(SoundOp::Counters));
+    tell_speaker(rt, counted_on_speaker(speaker))
+}
+
+fn tell_wire(rt: &impl Print, (sent, total): (u32, u32)) -> io::Result<()> {
+    println!(rt; "wire: {sent} frames sent, byte total {total}")
+}
+
+fn tell_speaker(rt: &impl Print, (samples, loudness): (u32, u32)) -> io::Result<()> {
     println!(rt; "speaker: {samples} samples, total {loudness}")
+}
+
+fn counted_on_wire<N: Driver<C = Network>>(wire: &mut N) -> (u32, u32)
+    ensures { N.Driver.ok wire.old → Counts N.Driver.steps wire.old 3 wire.new }
+{
+    counted(wire, u8::from(NetworkOp::Counters))
+}
+
+fn counted_on_speaker<S: Driver<C = Sound>>(speaker: &mut S) -> (u32, u32)
+    ensures { S.Driver.ok speaker.old → Counts S.Driver.steps speaker.old 2 speaker.new }
+{
+    counted(speaker, u8::from(SoundOp::Counters))
 }
 
 // The two counters of a device, through its driver; zeros where it does not answer. The kind is a number: `trait

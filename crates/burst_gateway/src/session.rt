@@ -2,7 +2,7 @@
 // tells the blocks used in another place: one function with two flags for that would be no plainer than both. What the
 // two do between, to take a burst, is the library's.
 use block::Block;
-use burst::{mend, report_speaker, report_wire, start, take_burst};
+use burst::{mend, report_counters, start, take_burst};
 use driver::Driver;
 use intake::Intake;
 use network::Network;
@@ -33,9 +33,9 @@ fn start_all<N: Driver<C = Network>, B: Driver<C = Block>, S: Driver<C = Sound>>
     disk: &mut B,
     speaker: &mut S,
 ) -> io::Result<()> {
-    let _ = start(rt, "restart", disk)?;
-    let _ = start(rt, "restart", speaker)?;
-    let _ = start(rt, "restart", wire)?;
+    let _ = start(rt, disk)?;
+    let _ = start(rt, speaker)?;
+    let _ = start(rt, wire)?;
     Ok(())
 }
 
@@ -49,6 +49,5 @@ fn report_drivers<N: Driver<C = Network> + Drop, S: Driver<C = Sound> + Drop>(
 ) -> io::Result<()> {
     println!(rt; "blocks used: {used} of {reach}")?;
     mend(rt, &mut wire)?;
-    report_wire(rt, &mut wire)?;
-    report_speaker(rt, &mut speaker)
+    report_counters(rt, &mut wire, &mut speaker)
 }

@@ -84,3 +84,6 @@ module _ (k : Kind) (law : Lawful k) where
   -- a list apart has no more entries than there are names below the bound
   pub apart_few : Exact k → (c : List Entry) (n : ℕ) → Apart k c → AllByRecursion (λ e. e.name < n) c → length c ≤ n
   apart_few ex c n a p = let t = tallied ex c n a p in let l = tally_le k.default (replay k c) n in omega arith
+
+  pub compact_few : Exact k → (h : List Entry) (bound : ℕ) → AllByRecursion (λ e. e.name < bound) (compact k h) → length (compact k h) ≤ bound
+  compact_few ex h n p = apart_few ex (compact k h) n (apart_compact k h) p

@@ -3,9 +3,9 @@
 
 ghost use Rattle.std.specs.Prelude.{◌≡◌, length};
 ghost use Rattle.model.specs.Requests.{counts};
-ghost use Rattle.device.specs.Performing.{permitted, put, put_count};
+ghost use Rattle.device.specs.Performing.{allowed, permitted, put, put_count};
 
-use model::{Class, Operation};
+use model::Class;
 
 pub mod command;
 mod device;
@@ -13,16 +13,39 @@ mod device;
 pub use command::Command;
 pub use device::Device;
 
+// Whether a device of this reach performs such a request, with room for the answer.
+pub fn allows<C: Class>(
+    reach: u32,
+    level: u32,
+    kind: u8,
+    address: u32,
+    size: usize,
+    room: usize,
+) -> bool
+    ensures { result ≡ allowed C.Class.rules reach level kind address size room }
+{
+    u64::from(level) <= C::greatest(0)
+        && C::has_kind(kind)
+        && address < reach
+        && C::takes(kind, size)
+        && C::LONGEST_ANSWER <= room
+}
+
 // The kind of a command that a device of this reach performs, with room for the answer; none where the class excludes it.
 pub fn permitted<C: Class>(reach: u32, command: &Command<'_>, room: usize) -> Option<C::Op>
     ensures { result ≡ permitted C.Class.rules C.Op.of reach command.now.level command.now.kind command.now.address (length command.now.payload.now) room }
 {
-    let op = C::operation(command.kind)?;
-    let fits = u64::from(command.level) <= C::greatest(0)
-        && command.address < reach
-        && op.takes(command.payload.len())
-        && C::LONGEST_ANSWER <= room;
-    fits.then_some(op)
+    let Command {
+        level,
+        kind,
+        address,
+        payload,
+    } = *command;
+    if allows::<C>(reach, level, kind, address, payload.len(), room) {
+        C::operation(kind)
+    } else {
+        None
+    }
 }
 
 // Puts an answer at the front of a buffer, and says how long it is; nothing where it does not fit. That is the length 0

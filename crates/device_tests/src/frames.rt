@@ -2,7 +2,7 @@ use crate::commands::at;
 use device::Device;
 use model::Class;
 use network::{
-    Network, NetworkOp, Survey, Wire, count_frames, frames_in, is_group, next_frame, split_frame,
+    Network, NetworkOp, Survey, Wire, count_frames, frames_in, is_group, next_arrival, split_frame,
 };
 use std::alloc::{AllocError, Global};
 use std::test::Fail;
@@ -93,7 +93,7 @@ fn runs(rt: HostRuntime) -> Result<(), Fail> {
     assert_eq!(rt; parts, Some((14, 21)));
     assert_eq!(rt; split_frame(&arrivals[34..]).is_none(), true);
     for (level, moved, length) in [(0, 34, Some(16)), (1, 16, Some(14))] {
-        let (far, frame) = next_frame(level, &arrivals);
+        let (far, frame) = next_arrival(level, &arrivals);
         assert_eq!(rt; (far, frame.map(|frame| frame.len())), (moved, length));
     }
     let seen = Survey {

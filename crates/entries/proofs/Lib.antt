@@ -1,4 +1,5 @@
--- The lemmas behind the searches, and those that the users of a log need.
+-- The lemmas behind the loops and searches, and those that the users of a log need.
+pub mod Loops
 pub mod Searches
 pub mod Updates
 pub mod Handing

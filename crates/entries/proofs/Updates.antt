@@ -1,7 +1,7 @@
 -- What noting an entry does to the items of a log.
-use Rattle.std.proofs.Common.{◌≡◌, ℕ, ◌+◌, ◌<◌, ◌≤◌, cond, ltb, List, [], ◌∷◌, ◌++◌, map, length, is_some, sym, refl, ap, ◌∙◌, arith}
+use Rattle.std.proofs.Common.{◌≡◌, ℕ, ◌+◌, ◌<◌, ◌≤◌, true, false, cond, ltb, List, [], ◌∷◌, ◌++◌, map, length, is_some, sym, refl, ap, ◌∙◌, arith}
 use Rattle.std.specs.List.{AllByRecursion}
-use Rattle.std.proofs.lemmas.List.{map-append, length-map}
+use Rattle.std.proofs.lemmas.List.{append-nil, map-append, length-append, length-map}
 use Rattle.std.proofs.lemmas.List.Sums.{length-filter, count_by-le-length}
 use Rattle.std.proofs.lemmas.Grind.{common_steps}
 use Rattle.compaction.specs.declared.entry.Entry.{Entry}
@@ -34,10 +34,20 @@ pub noted_records : (k : Kind) → Lawful k → (e : Entry) (is js : List Item) 
 noted_records k law e is js p h r =
     ap entries_of p ∙ (entries_noted k e is ∙ (ap (λ l. update k l e) r ∙ sym (updates k law h e)))
 
+pub noted_default : (k : Kind) (e : Entry) (is : List Item) → holds_default k e ≡ true → noted k e is ≡ other_items k e.name is
+noted_default k e is p = simp p (append-nil (other_items k e.name is))
+
+pub noted_more : (k : Kind) (e : Entry) (is : List Item) → holds_default k e ≡ false → noted k e is ≡ other_items k e.name is ++ fresh e ∷ []
+noted_more k e is p = simp p
+
 -- room for one more entry
 
 pub length_others_le : (k : Kind) (n : ℕ) (is : List Item) → length (other_items k n is) ≤ length is
 length_others_le k n is = grind (arith, length-filter, count_by-le-length)
+
+pub length_noted_le : (k : Kind) (e : Entry) (is : List Item) → length (noted k e is) ≤ length is + 1
+length_noted_le k e is =
+    grind (arith, length-append (other_items k e.name is) (cond (holds_default k e) [] (fresh e ∷ [])), length_others_le k e.name is)
 
 -- where names are numbers below a bound, there are never more entries than that
 pub noted_few : (k : Kind) → Lawful k → Exact k → (e : Entry) (is : List Item) (bound : ℕ)

@@ -6,4 +6,4 @@ mod marking;
 mod slices;
 
 pub use item::Item;
-pub use slices::{drop_same, find, last_content, stays};
+pub use slices::{drop_same, find, last_content, remove_same, stays};

@@ -20,6 +20,7 @@ impl<K> Log<K> {
     }
 
     // Takes every mark away.
+    #[tactic(auto, using(std::proofs::lemmas::Grind::common_steps, entries::proofs::Handing::entries_unhand))]
     pub fn unhand_all(&mut self)
         ensures after { self.new ≡ map (marked false) self.old }
         ensures same { entries_of self.new ≡ entries_of self.old }

@@ -7,7 +7,7 @@ use crate::item::Full;
 use crate::log::Log;
 use arrayvec::ArrayVec;
 use compaction::Entry;
-use entries::{Item, drop_same, stays};
+use entries::{Item, remove_same, stays};
 use kinds::EntryKind;
 use std::marker::PhantomData;
 
@@ -69,13 +69,13 @@ impl<K: EntryKind> Log<K> {
         ensures records { is_ok result ≡ true → (h : List Entry) → Records K.kind h self.old → Records K.kind (h ++ entry_of name content ∷ []) self.new }
     {
         if content == K::default_content(name) {
-            drop_same::<K, _>(&mut self.items, name);
+            remove_same::<K, _>(&mut self.items, name);
             return Ok(());
         }
         if !self.has_room(name) {
             return Err(Full);
         }
-        drop_same::<K, _>(&mut self.items, name);
+        remove_same::<K, _>(&mut self.items, name);
         self.append(Entry { name, content })
     }
 

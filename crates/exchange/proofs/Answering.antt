@@ -1,15 +1,15 @@
 -- What an exchange comes to, by the driver rules.
 use Rattle.std.proofs.Common.{◌≡◌, ℕ, true, false, List, [], ◌∷◌, ◌++◌, None, Err, Result, sym, refl, ap, ◌∙◌, subst, inl, inr, arith}
 use Rattle.std.proofs.lemmas.Bool.{both_ways}
-use Rattle.model.specs.Requests.{Request, Contents}
+use Rattle.model.specs.Requests.{Request, Contents, onto}
 use Rattle.model.specs.Rules.{Rules}
 use Rattle.driver.specs.States.{State, holding}
 use Rattle.driver.specs.Calls.{Call, Reply, submit, collect, accepted, failed}
 use Rattle.model.specs.declared.refusal.Fault.{Fault}
 use Rattle.model.specs.declared.refusal.Refusal.{Refusal}
-use Rattle.driver.specs.Replies.{Refuses, pair, plain, got}
+use Rattle.driver.specs.Replies.{Refuses, pair, plain, got, bytes_of, Framed}
 use Rattle.driver.specs.declared.answers.Collected.{Collected}
-use Rattle.driver.proofs.Facts.{refusal_refuses}
+use Rattle.driver.proofs.Facts.{refusal_refuses, refusal_bytes}
 use Rattle.driver.specs.Rules.{Rule, Collects, untouched, performed, finds_none, finds_done, finds_lost, finds_same, finds_early, is_down, fails, refuses, submits, collects, tests, first, after, Perhaps}
 use Rattle.exchange.specs.Exchanges.{Exchanged, Answered, turned_away, collected, is_done, is_lost, is_open, is_failed, is_refused, is_short}
 
@@ -75,6 +75,10 @@ module _ {D : Type 0} (u : Rules) (state : D → State) (fault : D → Fault) (o
     (keeps : (s : D) (c : Call) (r : Reply) (t : D) → ok s → steps s c r t → Rule u (state s) c r (state t))
     (stays : (s : D) (c : Call) (r : Reply) (t : D) → ok s → steps s c r t → ok t)
     (pairs : (s : D) (c : Call) (a b : ℕ) (t : D) → ok s → steps s c (failed a b) t → fault t ≡ pair a b) where
+  pub still_ok : (s : D) (q : Request) (room : ℕ) (r : Reply) (t : D) → ok s → Exchanged steps s q room r t → ok t
+  still_ok s q room r t o (turned_away f p) = stays _ _ _ _ o p
+  still_ok s q room r t o (collected m p c) = stays _ _ _ _ (stays _ _ _ _ o p) c
+
   paired : (s : D) (c : Call) (r : Reply) (t : D) → ok s → steps s c r t → Pairs (fault t) r
   paired s c r t o p a b e = pairs s c a b t o (subst (λ (x : Reply). steps s c x t) e p)
 
@@ -88,3 +92,7 @@ pub refused_first : {D A : Type 0} (steps : D → Call → Reply → D → Type 
     → r ≡ Err x → r' ≡ Err x → steps s (submit q) (plain r) t → Exchanged steps s q room (got buffer r') t
 refused_first steps s t q room buffer r r' x e e' p =
     subst (λ (y : Reply). Exchanged steps s q room y t) (ap plain e ∙ sym (ap (got buffer) e')) (turned_away (subst Refuses (sym (ap plain e)) (refusal_refuses x)) p)
+
+-- it leaves the buffer as it is
+pub refused_frame : (buffer : List ℕ) (r : Result Collected Refusal) (x : Refusal) → r ≡ Err x → Framed buffer buffer r
+refused_frame buffer r x e = sym (ap (λ (y : Reply). onto (bytes_of y) buffer) (ap (got buffer) e) ∙ ap (λ (bs : List ℕ). onto bs buffer) (refusal_bytes x))

@@ -1,4 +1,4 @@
--- What a request that the class and the tables allow comes to, by what is heard of it.
+-- What a request that the class and the tables allow comes to, by its answer and by what is heard of it.
 use Rattle.std.proofs.Common.{◌≡◌, ℕ, ◌+◌, ◌<◌, ◌≤◌, true, false, not, ltb, leb, List, [], ◌∷◌, length, take, None, Ok, Err, Result, sym, ap, ◌∙◌, subst, arith}
 use Rattle.std.proofs.lemmas.Bool.{cond-false, le-ltb, lt-leb}
 use Rattle.model.specs.Requests.{Request, Contents}
@@ -17,12 +17,29 @@ use Rattle.exchange.specs.declared.silence.Silence.TheVariants.{Refused, Unanswe
 use Rattle.exchange.specs.Hearing.{heard_of, Heard}
 use Rattle.exchange.specs.Exchanges.{Answered, is_done, is_lost, is_open, is_failed, is_refused, is_short}
 
+-- by the answer that the code sees
+pub data Settled (u : Rules) (s : State) (q : Request) (f : Fault) (buffer : List ℕ) : Result Collected Refusal → State → Type 0 where
+  settled_done : {t : State} {tag n : ℕ} → s.up ≡ true → tag ≡ q.tag → take n buffer ≡ (after u s q).answer → t ≡ holding s [] (after u s q).contents
+      → Settled u s q f buffer (Ok (Done tag n)) t
+  settled_lost : {t : State} {tag : ℕ} (x : Contents) → s.up ≡ true → u.declared q.kind ≡ false → Perhaps u s q x → t ≡ holding s [] x
+      → Settled u s q f buffer (Ok (Lost tag)) t
+  settled_open : {t : State} (x : Contents) → s.up ≡ true → Perhaps u s q x → t ≡ holding s (q ∷ []) x → Settled u s q f buffer (Ok NotYet) t
+  settled_failed : {t : State} {g : Fault} (x : Contents) → g ≡ f → t.up ≡ false → t.reach ≡ s.reach → t.contents ≡ x → Perhaps u s q x
+      → Settled u s q f buffer (Err (Failed g)) t
+
+-- by what is heard of it
 pub data Came (u : Rules) (s : State) (q : Request) (f : Fault) (buffer : List ℕ) : Result ℕ Silence → State → Type 0 where
   came_done : {t : State} {n : ℕ} → s.up ≡ true → take n buffer ≡ (after u s q).answer → t ≡ holding s [] (after u s q).contents → Came u s q f buffer (Ok n) t
   came_lost : {t : State} (x : Contents) → s.up ≡ true → u.declared q.kind ≡ false → Perhaps u s q x → t ≡ holding s [] x → Came u s q f buffer (Err Unanswered) t
   came_open : {t : State} (x : Contents) → s.up ≡ true → Perhaps u s q x → t ≡ holding s (q ∷ []) x → Came u s q f buffer (Err Unanswered) t
   came_failed : {t : State} {g : Fault} (x : Contents) → g ≡ f → t.up ≡ false → t.reach ≡ s.reach → t.contents ≡ x → Perhaps u s q x
       → Came u s q f buffer (Err (Refused (Failed g))) t
+
+heard_settled : {u : Rules} {s : State} {q : Request} {f : Fault} {buffer : List ℕ} {r : Result Collected Refusal} {t : State} → Settled u s q f buffer r t → Came u s q f buffer (heard_of r) t
+heard_settled (settled_done h m b e) = came_done h b e
+heard_settled (settled_lost x h d p e) = came_lost x h d p e
+heard_settled (settled_open x h p e) = came_open x h p e
+heard_settled (settled_failed x m h r c p) = came_failed x m h r c p
 
 module _ (u : Rules) (s : State) (q : Request) (room : ℕ) (f : Fault) (buffer : List ℕ) (t : State)
     (taken : first (tests u s (submit q)) ≡ None) (long : first (tests u s (collect room)) ≡ None) where
@@ -33,39 +50,42 @@ module _ (u : Rules) (s : State) (q : Request) (room : ℕ) (f : Fault) (buffer 
   not_idle : Answered u s q room f idle t → ⊥
   not_idle h = elim h [ ]
 
-  done_came : {tag n : ℕ} → Answered u s q room f (got buffer (Ok (Done tag n))) t → Came u s q f buffer (Ok n) t
-  done_came (is_done h m b e) = came_done h b e
+  done_settled : {tag n : ℕ} → Answered u s q room f (got buffer (Ok (Done tag n))) t → Settled u s q f buffer (Ok (Done tag n)) t
+  done_settled (is_done h m b e) = settled_done h m b e
 
-  lost_came : {tag : ℕ} → Answered u s q room f (got buffer (Ok (Lost tag))) t → Came u s q f buffer (Err Unanswered) t
-  lost_came (is_lost x h m d p e) = came_lost x h d p e
+  lost_settled : {tag : ℕ} → Answered u s q room f (got buffer (Ok (Lost tag))) t → Settled u s q f buffer (Ok (Lost tag)) t
+  lost_settled (is_lost x h m d p e) = settled_lost x h d p e
 
-  open_came : Answered u s q room f (got buffer (Ok NotYet)) t → Came u s q f buffer (Err Unanswered) t
-  open_came (is_open x h p e) = came_open x h p e
+  open_settled : Answered u s q room f (got buffer (Ok NotYet)) t → Settled u s q f buffer (Ok NotYet) t
+  open_settled (is_open x h p e) = settled_open x h p e
 
-  failed_came : {g : Fault} → Answered u s q room f (failed g.layer g.place) t → Came u s q f buffer (Err (Refused (Failed g))) t
-  failed_came (is_failed x m h r c p) = came_failed x (sym m) h r c p
+  failed_settled : {g : Fault} → Answered u s q room f (failed g.layer g.place) t → Settled u s q f buffer (Err (Failed g)) t
+  failed_settled (is_failed x m h r c p) = settled_failed x (sym m) h r c p
 
-  came : (r : Result Collected Refusal) → Answered u s q room f (got buffer r) t → Came u s q f buffer (heard_of r) t
-  came (Ok (Done tag n)) h = done_came h
-  came (Ok (Lost tag)) h = lost_came h
-  came (Ok Idle) h = absurd (not_idle h)
-  came (Ok NotYet) h = open_came h
-  came (Err (Failed g)) h = failed_came h
-  came (Err Setting) h = absurd (never h)
-  came (Err Value) h = absurd (never h)
-  came (Err Name) h = absurd (never h)
-  came (Err Kind) h = absurd (never h)
-  came (Err Address) h = absurd (never h)
-  came (Err Payload) h = absurd (never h)
-  came (Err Answer) h = absurd (never h)
-  came (Err Roll) h = absurd (never h)
-  came (Err Full) h = absurd (never h)
-  came (Err Room) h = absurd (never h)
-  came (Err Phase) h = absurd (never h)
-  came (Err (Unfinished n)) h = absurd (never h)
+  pub settled : (r : Result Collected Refusal) → Answered u s q room f (got buffer r) t → Settled u s q f buffer r t
+  settled (Ok (Done tag n)) h = done_settled h
+  settled (Ok (Lost tag)) h = lost_settled h
+  settled (Ok Idle) h = absurd (not_idle h)
+  settled (Ok NotYet) h = open_settled h
+  settled (Err (Failed g)) h = failed_settled h
+  settled (Err Setting) h = absurd (never h)
+  settled (Err Value) h = absurd (never h)
+  settled (Err Name) h = absurd (never h)
+  settled (Err Kind) h = absurd (never h)
+  settled (Err Address) h = absurd (never h)
+  settled (Err Payload) h = absurd (never h)
+  settled (Err Answer) h = absurd (never h)
+  settled (Err Roll) h = absurd (never h)
+  settled (Err Full) h = absurd (never h)
+  settled (Err Room) h = absurd (never h)
+  settled (Err Phase) h = absurd (never h)
+  settled (Err (Unfinished n)) h = absurd (never h)
+
+  pub came : (r : Result Collected Refusal) → Answered u s q room f (got buffer r) t → Came u s q f buffer (heard_of r) t
+  came r h = heard_settled (settled r h)
 
 -- a submit that no test refuses, where nothing waits
-taken_first : (u : Rules) (s : State) (q : Request) → s.waiting ≡ [] → u.kind q.kind ≡ true → q.address < s.reach → u.takes q.kind (length q.payload) ≡ true
+pub taken_first : (u : Rules) (s : State) (q : Request) → s.waiting ≡ [] → u.kind q.kind ≡ true → q.address < s.reach → u.takes q.kind (length q.payload) ≡ true
     → length q.payload ≤ 8192 → first (tests u s (submit q)) ≡ None
 taken_first u s q w k a p n =
     let few : leb 16 (length s.waiting) ≡ false = ap (λ (qs : List Request). leb 16 (length qs)) w in
@@ -73,7 +93,7 @@ taken_first u s q w k a p n =
     cond-false _ _ _ (ap not k) ∙ (cond-false _ _ _ (lt-leb _ _ a) ∙ (cond-false _ _ _ (ap not p) ∙ (cond-false _ _ _ few ∙ cond-false _ _ _ light)))
 
 -- a collect whose buffer is long enough
-long_enough : (u : Rules) (s : State) (room : ℕ) → u.longest ≤ room → first (tests u s (collect room)) ≡ None
+pub long_enough : (u : Rules) (s : State) (room : ℕ) → u.longest ≤ room → first (tests u s (collect room)) ≡ None
 long_enough u s room h = cond-false _ _ _ (le-ltb _ _ h)
 
 -- what is heard of a request that is taken, over a buffer that is long enough, where nothing waits

@@ -1,6 +1,6 @@
 // One session of the gateway, over drivers of any make: over the types of its piles the check takes longer.
 use block::Block;
-use burst::{mend, report_speaker, report_wire, start, take_burst};
+use burst::{mend, report_speaker, report_wire, start_as, take_burst};
 use driver::Driver;
 use intake::Intake;
 use network::Network;
@@ -39,7 +39,7 @@ fn started<N: Driver<C = Network>, B: Driver<C = Block>, S: Driver<C = Sound>>(
 ) -> io::Result<bool> {
     // the network's restart is the first call that may fail
     let others = disk.restart().is_ok() && speaker.restart().is_ok();
-    let up = start(rt, "start", wire)? && others;
+    let up = start_as(rt, "start", wire)? && others;
     if !up {
         println!(rt; "the drivers did not start")?;
     }

@@ -1,2 +1,3 @@
 -- Lemmas about heads and bytes.
 pub mod Laid
+pub mod Steps

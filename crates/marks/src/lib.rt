@@ -37,7 +37,14 @@ pub fn first_unhanded<T: Marked>(xs: &[T]) -> Option<usize>
 pub fn unhanded<T: Marked>(xs: &[T]) -> usize
     ensures { result ≡ count_by (λ x. not (T.handed x)) xs.now }
 {
-    xs.iter().filter(|x| !x.is_handed()).count()
+    // a loop, since `count` of a `filter` took twice the time
+    let mut n = 0;
+    for x in xs {
+        if !x.is_handed() {
+            n += 1;
+        }
+    }
+    n
 }
 
 // Takes every mark away.

@@ -1,7 +1,7 @@
 // A class of devices.
 ghost use Rattle.std.specs.Prelude.{◌≡◌, ℕ, slice_get, is_some};
 ghost use Rattle.model.specs.Kinds.{takes_of, declared_of};
-ghost use Rattle.model.specs.Rules.{Rules, Bounds, Repeatable, between, has_setting, initial, greatest};
+ghost use Rattle.model.specs.Rules.{Rules, Bounds, Repeatable, between, has_setting, range_of, initial, greatest};
 
 use crate::kind::Operation;
 use crate::setting::SettingRange;
@@ -39,10 +39,20 @@ pub trait Class {
         ensures { result.now ≡ rules.settings };
 
     // The row of a key, if there is one.
-    fn range(key: u64) -> Option<SettingRange>
+    fn row(key: u64) -> Option<SettingRange>
         ensures { result ≡ slice_get rules.settings key }
     {
         Self::setting_rows().get(key as usize).copied()
+    }
+
+    // The row of a key, and one of zeros where there is none: it cannot fail, and `row` stands beside it.
+    fn range(key: u64) -> SettingRange
+        ensures { result ≡ range_of rules key }
+    {
+        Self::row(key).unwrap_or(SettingRange {
+            initial: 0,
+            greatest: 0,
+        })
     }
 
     fn has_setting(key: u64) -> bool
@@ -51,18 +61,18 @@ pub trait Class {
         (key as usize) < Self::setting_rows().len()
     }
 
-    // What a setting holds at first, and 0 where there is none: it cannot fail, and `range` stands beside it.
+    // What a setting holds at first, and 0 where there is none.
     fn initial(key: u64) -> u64
         ensures { result ≡ initial rules key }
     {
-        Self::range(key).map_or(0, |range| u64::from(range.initial))
+        u64::from(Self::range(key).initial)
     }
 
-    // The greatest value of a setting, and 0 where there is none: it cannot fail, and `range` stands beside it.
+    // The greatest value of a setting, and 0 where there is none.
     fn greatest(key: u64) -> u64
         ensures { result ≡ greatest rules key }
     {
-        Self::range(key).map_or(0, |range| u64::from(range.greatest))
+        u64::from(Self::range(key).greatest)
     }
 
     fn has_name(name: u32) -> bool

@@ -44,7 +44,7 @@ impl Device for Wire {
             }
             Some(NetworkOp::Receive) => {
                 let (moved, frame) = next_frame(command.level, &self.arrivals[self.place..]);
-                let count = put_answer(answer, frame.unwrap_or_default());
+                let count = put_answer(answer, frame);
                 self.place += moved;
                 count
             }

@@ -1,11 +1,12 @@
 -- The bytes that stand in a list from a place on.
 use Rattle.std.proofs.Common.{◌≡◌, ℕ, ◌+◌, ◌-◌, ◌≤◌, List, ◌++◌, length, take, drop, sym, ap, ◌∙◌, arith}
 use Rattle.std.specs.List.{copy_within}
-use Rattle.std.proofs.lemmas.List.{take-take, drop-take, drop-drop, drop-append-le, length-take, length-take-le, length-drop}
+use Rattle.std.proofs.lemmas.List.{take-take, drop-take, drop-drop, length-take, length-drop}
 use Rattle.std.proofs.lemmas.List.Edits.{take-paste}
 use Rattle.std.proofs.lemmas.Slice.{take-put_mid}
 use lib.Seq.{paste}
 use borrow.Rule.Slice.PartMut.{put_mid}
+use Rattle.heads.proofs.Steps.{seen_from}
 
 -- all but the first n of them
 pub rest_is : (s : List ℕ) (start len n : ℕ) → n ≤ length (take len (drop start s)) → take (len - n) (drop (start + n) s) ≡ drop n (take len (drop start s))
@@ -27,11 +28,7 @@ part_is s start len at n le =
 pub added : (s : List ℕ) (start len k : ℕ) (bytes : List ℕ) → start + len ≤ length s
     → take (len + length bytes) (drop start (put_mid (start + len) k s bytes)) ≡ take len (drop start s) ++ bytes
 added s start len k bytes le =
-    let t = take-put_mid (start + len) k s bytes (start + (len + length bytes)) (omega arith) le in
-    let l = length-take-le (start + len) s le in
-    let a = drop-append-le start (take (start + len) s) bytes (omega arith) in
-    sym (drop-take start (len + length bytes) (put_mid (start + len) k s bytes))
-    ∙ (ap (drop start) t ∙ (a ∙ ap (λ b. b ++ bytes) (drop-take start len s)))
+    seen_from s (put_mid (start + len) k s bytes) bytes start len le (take-put_mid (start + len) k s bytes (start + len + length bytes) (omega arith) le)
 
 -- they are moved to the front
 pub moved : (s : List ℕ) (start len : ℕ) → start + len ≤ length s → take len (copy_within s start (start + len) 0) ≡ take len (drop start s)

@@ -1,2 +1,3 @@
 -- Lemmas that the proofs of several functions share.
 pub mod Bytes
+pub mod Whole

@@ -21,7 +21,7 @@ impl Queue {
     }
 
     // Adds a request as the youngest, not handed on yet; a refused one changes nothing.
-    #[tactic(auto, using(heads::proofs::Laid::length_laid, heads::proofs::Laid::weight_laid, heads::proofs::Laid::laid_push))]
+    #[tactic(auto, using(heads::proofs::Laid::length_laid, heads::proofs::Laid::weight_laid, heads::proofs::Laid::laid_behind))]
     pub fn push(&mut self, header: Header, payload: &[u8]) -> Result<(), Refusal>
         ensures verdict { result ≡ verdict self.old (length payload.now) }
         ensures after { self.new ≡ (if is_ok result then self.old ++ fresh header payload.now ∷ [] else self.old) }

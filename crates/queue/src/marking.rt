@@ -10,7 +10,7 @@ use crate::queue::Queue;
 
 impl Queue {
     // Notes that the i-th request is handed on; past the last nothing happens.
-    #[tactic(auto, using(heads::proofs::Laid::laid_handed, heads::proofs::Laid::handed_past))]
+    #[tactic(auto, using(heads::proofs::Laid::laid_handed, heads::proofs::Laid::laid_past))]
     pub fn hand(&mut self, i: usize)
         ensures { self.new ≡ handed_at i self.old }
     {

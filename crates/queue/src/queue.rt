@@ -11,7 +11,7 @@ pub const MOST: usize = 16;
 pub const CAPACITY: usize = 8192;
 
 // The heads of the requests, the oldest first, and their payloads in the same order. The payloads share
-// one run of bytes: in fixed memory a buffer for each request would take 16 times as much.
+// one run of bytes: in fixed memory a buffer of 8192 bytes for each request would take eight times as much.
 #[derive(Drop)]
 pub struct Queue {
     pub(crate) heads: ArrayVec<Head, MOST>,

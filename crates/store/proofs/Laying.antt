@@ -1,6 +1,6 @@
 -- A frame laid out behind its length.
 use Rattle.std.proofs.Common.{◌≡◌, ℕ, zero, suc, ◌+◌, ◌-◌, ◌/◌, ◌%◌, ◌≤◌, List, [], ◌∷◌, ◌++◌, length, drop, set, get_or, replicate, Some, sym, ap, ◌∙◌, suc-add, zero-add, arith, drop-drop}
-use Rattle.std.specs.Int.{bytes_high_first, div_ceil}
+use Rattle.std.specs.Int.{bytes_high_first}
 use borrow.Rule.Slice.PartMut.{put_mid}
 use Rattle.std.proofs.lemmas.Bool.{cond-false, le-ltb}
 use Rattle.store.specs.Records.{be2, blocks_for, padded}
@@ -37,9 +37,8 @@ bytes_laid frame zs size h s e =
     laid (zeros 1536) frame zs _ _ e (omega arith)
     ∙ rw (high, low) (ap (λ (r : List ℕ). be2 (length frame) ++ (frame ++ r)) (zeros_left 1536 (2 + length frame) (omega arith) ∙ ap zeros left))
 
-pub its_record : (frame bytes : List ℕ) (n : ℕ) → length frame ≤ 1514 → n ≡ div_ceil (2 + length frame) 512 → bytes ≡ padded frame
+pub its_record : (frame bytes : List ℕ) (n : ℕ) → length frame ≤ 1514 → n ≡ blocks_for (length frame) → bytes ≡ padded frame
     → Some (record { count = n; bytes = bytes }) ≡ record_blocks frame
-its_record frame bytes n h c e =
-    let many : n ≡ blocks_for (length frame) = c ∙ omega arith in
+its_record frame bytes n h many e =
     ap (λ (k : ℕ). Some (record { count = k; bytes = bytes })) many
     ∙ (ap (λ (xs : List ℕ). Some (record { count = blocks_for (length frame); bytes = xs })) e ∙ sym (cond-false _ _ _ (le-ltb _ _ h)))

@@ -1,6 +1,6 @@
 // Frames as records of whole blocks.
-ghost use Rattle.std.specs.Prelude.{◌≡◌};
-ghost use Rattle.store.specs.Records.{blocks_of};
+ghost use Rattle.std.specs.Prelude.{◌≡◌, ◌<◌, ◌≤◌, length, MatchOption};
+ghost use Rattle.store.specs.Records.{blocks_of, blocks_for};
 ghost use Rattle.store.specs.Blocks.{record_blocks, fitted};
 
 use crate::store::StoreError;
@@ -27,14 +27,22 @@ impl Record {
     }
 }
 
+// How many blocks the record of a frame takes; none for what is longer than any frame.
+fn blocks_for(frame: &[u8]) -> Option<u32>
+    ensures { MatchOption result (1514 < length frame.now) (λ count. (length frame.now ≤ 1514) × (count ≡ blocks_for (length frame.now))) }
+{
+    if frame.len() > LONGEST_FRAME {
+        return None;
+    }
+    Some((2 + frame.len()).div_ceil(BLOCK) as u32)
+}
+
 // The record of a frame: its length in two bytes, the higher first, and then the frame; none for what is longer than
 // any frame.
 pub fn record_of(frame: &[u8]) -> Option<Record>
     ensures { result ≡ record_blocks frame.now }
 {
-    if frame.len() > LONGEST_FRAME {
-        return None;
-    }
+    let count = blocks_for(frame)?;
     let size = frame.len();
     let mut bytes = [0u8; RECORD];
     let [high, low] = (size as u16).to_be_bytes();
@@ -42,7 +50,6 @@ pub fn record_of(frame: &[u8]) -> Option<Record>
     bytes[0] = high;
     bytes[1] = low;
     bytes[2..2 + size].copy_from_slice(frame);
-    let count = (2 + size).div_ceil(BLOCK) as u32;
     Some(Record { count, bytes })
 }
 
@@ -50,9 +57,10 @@ pub fn record_of(frame: &[u8]) -> Option<Record>
 pub fn fitted(frame: &[u8], first: u32, reach: u32) -> Result<Record, StoreError>
     ensures { result ≡ fitted frame.now first reach }
 {
-    let record = record_of(frame).ok_or(StoreError::TooLong)?;
-    if first > reach || record.count > reach - first {
+    // the room is looked for before the record is made: no byte of a frame that does not fit is copied
+    let count = blocks_for(frame).ok_or(StoreError::TooLong)?;
+    if first > reach || count > reach - first {
         return Err(StoreError::Full);
     }
-    Ok(record)
+    record_of(frame).ok_or(StoreError::TooLong)
 }

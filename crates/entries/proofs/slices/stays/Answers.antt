@@ -1,22 +1,35 @@
--- A later entry has the name where `any` finds one.
-use Rattle.std.proofs.Common.{rules, not, ◌||◌, eqb, sym, ap, ◌∙◌}
-use Rattle.std.proofs.lemmas.Iterator.{YieldsList-from_slice}
-use Rattle.std.proofs.lemmas.Iterator.Search.{any_from_yields_List}
-use Rattle.compaction.specs.declared.entry.Entry.{Entry}
-use Rattle.compaction.specs.Compaction.{holds_default}
-use Rattle.entries.proofs.Searches.{named_any}
+-- One turn looks at the first of the entries that are left.
+use Rattle.std.proofs.Common.{◌+◌, not, ◌||◌, eqb, drop, sym, refl, ap, ◌∙◌}
+use Rattle.std.proofs.lemmas.List.{at_drop_all}
+use Rattle.std.proofs.lemmas.Bool.{or_left}
+use Rattle.compaction.specs.Compaction.{named, holds_default}
+use Rattle.entries.proofs.Loops.{named_more}
 use Rattle.entries.proofs.slices.stays.Goals as goal
-use borrow.Author.Tests.{tests}
 
-pub returns-then-not-any : goal.returns-then-not-any
-returns-then-not-any g c =
-    let any = any_from_yields_List (λ (x : Entry). g.K.EntryKind.kind.same x.name c.args.first.now.name) _ _ c.any.result c.any.ensures.ran (YieldsList-from_slice c.args.later.now c.iter.ensures.rest) (λ x b q k. search (rules, tests)) in
-    let named = any ∙ sym (named_any g.K.EntryKind.kind c.args.first.now.name c.args.later.now) in
-    ap (λ x. not (eqb c.args.first.now.content x)) c.default_content.ensures
-    ∙ ap (λ b. not (b || holds_default g.K.EntryKind.kind c.args.first.now)) (sym c.if-not-any.true ∙ named)
+pub loop-next-init : goal.loop-next-init
+loop-next-init g c = refl
 
-pub returns-else-not-any : goal.returns-else-not-any
-returns-else-not-any g c =
-    let any = any_from_yields_List (λ (x : Entry). g.K.EntryKind.kind.same x.name c.args.first.now.name) _ _ c.any.result c.any.ensures.ran (YieldsList-from_slice c.args.later.now c.iter.ensures.rest) (λ x b q k. search (rules, tests)) in
-    let named = any ∙ sym (named_any g.K.EntryKind.kind c.args.first.now.name c.args.later.now) in
-    ap not c.if-not-any.false ∙ ap (λ b. not (b || holds_default g.K.EntryKind.kind c.args.first.now)) (sym c.if-not-any.false ∙ named)
+pub returns-then-is_same : goal.returns-then-is_same
+returns-then-is_same g c =
+    let k = g.K.EntryKind.kind in
+    let e = c.args.first.now in
+    let h = c.args.later.now in
+    let here = or_left _ (named k e.name (drop (c.loop-next.next-index + 1) h)) (sym c.is_same.ensures ∙ c.if-is_same.true) in
+    let is = sym (named_more k e.name _ h c.loop-next.next-index c.loop-next-test.true c.loop-next.invariant) ∙ here in
+    sym (ap not (or_left _ (holds_default k e) is))
+
+pub loop-next-preserved : goal.loop-next-preserved
+loop-next-preserved g c =
+    let k = g.K.EntryKind.kind in
+    let e = c.args.first.now in
+    let h = c.args.later.now in
+    ap (λ b. b || named k e.name (drop (c.loop-next.next-index + 1) h)) c.if-is_same.ensures
+    ∙ named_more k e.name _ h c.loop-next.next-index c.loop-next-test.true c.loop-next.invariant
+
+pub returns : goal.returns
+returns g c =
+    let k = g.K.EntryKind.kind in
+    let e = c.args.first.now in
+    let h = c.args.later.now in
+    let none = sym c.loop-next.invariant ∙ at_drop_all (named k e.name) h c.loop-next.next-index c.loop-next-test.false in
+    ap (λ x. not (eqb e.content x)) c.default_content.ensures ∙ sym (ap (λ b. not (b || holds_default k e)) none)

@@ -9,7 +9,7 @@ use Rattle.entry_log.proofs.log.Log.note.Goals as goal
 
 pub returns-then-content-default_content-clause-records : goal.returns-then-content-default_content-clause-records
 returns-then-content-default_content-clause-records g c _ h r =
-    let a : c.drop_same.new.items.items ≡ noted g.K.EntryKind.kind (entry_of c.args.name c.args.content) c.args.self.now = grind (arith, common_steps) in
+    let a : c.remove_same.new.items.items ≡ noted g.K.EntryKind.kind (entry_of c.args.name c.args.content) c.args.self.now = grind (arith, common_steps) in
     noted_records g.K.EntryKind.kind g.met.K.EntryKind.lawful _ c.args.self.now _ a h r
 
 pub returns-clause-records : goal.returns-clause-records

@@ -11,4 +11,5 @@ invariant_of-self c =
     let d = length-drop c.in-Some.oldest.size q.payloads in
     let e = ap length c.skip.ensures in
     let h = ap total c.in-Some.ensures.items in
-    record { small = omega arith; sizes = omega arith }
+    let less = c.in-Some.ensures.len in
+    record { few = omega arith; small = omega arith; sizes = omega arith }

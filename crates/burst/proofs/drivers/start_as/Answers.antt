@@ -3,7 +3,7 @@ use Rattle.driver.specs.Calls.{restart}
 use Rattle.driver.specs.Replies.{plain, refusal}
 use Rattle.driver.proofs.Facts.{refusal_refuses}
 use Rattle.burst.specs.Calls.{comes_up, stays_down}
-use Rattle.burst.proofs.drivers.start.Goals as goal
+use Rattle.burst.proofs.drivers.start_as.Goals as goal
 
 pub returns-in_err-report_refusal-in-Err : goal.returns-in_err-report_refusal-in-Err
 returns-in_err-report_refusal-in-Err g c =
